@@ -1,0 +1,13 @@
+pub mod Pick
+pub mod Edition
+pub mod Refusal
+pub mod Fields
+pub mod Record
+pub mod Units
+pub mod Step
+pub mod Check
+pub mod Outcome
+pub mod Program
+pub mod Place
+pub mod Table
+pub mod Mirror

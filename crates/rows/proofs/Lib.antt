@@ -1,0 +1,5 @@
+pub mod Digit
+pub mod Rows
+pub mod Members
+pub mod Fill
+pub mod Pack

@@ -1,0 +1,3 @@
+
+// Appended at build time: the stub stands in for the crate of that name.
+use super::walrus;
