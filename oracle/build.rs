@@ -1,11 +1,28 @@
-//! Links the proved library where the environment names one, and notes whether the original was built.
+//! Links the proved library where the environment names one, and notes which functions it has and whether the original
+//! was built.
 
 use std::env;
 use std::path::{Path, PathBuf};
+use std::process::Command;
+
+/// The functions that the library may have. Each that is there sets `entry_` and its name.
+const FUNCTIONS: [&str; 8] = [
+    "check_file",
+    "reads_at",
+    "writes_at",
+    "storage_reads_at",
+    "storage_writes_at",
+    "effect_at",
+    "live_of",
+    "graph_of",
+];
 
 fn main() {
     println!("cargo:rerun-if-changed=build.rs");
-    println!("cargo:rustc-check-cfg=cfg(entry, original)");
+    println!("cargo:rustc-check-cfg=cfg(original)");
+    for function in FUNCTIONS {
+        println!("cargo:rustc-check-cfg=cfg(entry_{function})");
+    }
     if env::var_os("DEP_ORIGINAL_BUILT").is_some() {
         println!("cargo:rustc-cfg=original");
     }
@@ -28,7 +45,12 @@ fn link_entry() {
     println!("cargo:rerun-if-changed={}", archive.display());
     println!("cargo:rustc-link-search=native={}", folder.display());
     println!("cargo:rustc-link-lib=static={name}");
-    println!("cargo:rustc-cfg=entry");
+    let symbols = symbols_of(&archive);
+    for function in FUNCTIONS {
+        if symbols.iter().any(|symbol| symbol == function) {
+            println!("cargo:rustc-cfg=entry_{function}");
+        }
+    }
 }
 
 fn archive_path(given: &Path) -> PathBuf {
@@ -39,4 +61,15 @@ fn archive_path(given: &Path) -> PathBuf {
     };
     path.canonicalize()
         .unwrap_or_else(|error| panic!("ENTRY_LIB {}: {error}", path.display()))
+}
+
+/// The names that the archive defines: the last word of each line of `nm`.
+fn symbols_of(archive: &Path) -> Vec<String> {
+    let mut command = Command::new("nm");
+    let output = command.args(["-g", "--defined-only"]).arg(archive).output();
+    let output = output.unwrap_or_else(|error| panic!("nm lists the library's functions: {error}"));
+    assert!(output.status.success(), "nm cannot read {}", archive.display());
+    let lines = String::from_utf8_lossy(&output.stdout).into_owned();
+    let names = lines.lines().filter_map(|line| line.split_whitespace().last());
+    names.map(str::to_string).collect()
 }

@@ -1,10 +1,13 @@
-//! Times the checkers on realistic files and on files at the limits.
+//! Times both sides on realistic files and on files at the limits.
+
+#[cfg(original)]
+mod analysis;
 
 use std::hint::black_box;
 use std::time::Instant;
 
+use crate::entry::Library;
 use crate::generate::{self, limits};
-use crate::entry::Checker;
 use crate::random::Random;
 use crate::reader::check;
 use crate::records::MOST_UNITS;
@@ -28,30 +31,34 @@ const SETS: [(&str, Maker); 5] = [
     ("128 blocks", |random| limits::at_blocks(random, 0).bytes()),
 ];
 
-pub fn run(checker: Option<Checker>, seed: u64) {
+pub fn run(library: &Library, seed: u64) {
     for (name, maker) in SETS {
-        let mut random = Random::new(seed);
-        let files: Vec<Vec<u8>> = (0..FILES).map(|_| maker(&mut random)).collect();
-        let bytes: usize = files.iter().map(Vec::len).sum::<usize>() / FILES;
-        report(
-            name,
-            bytes,
-            "Rust reader",
-            best(&files, |file| check(file).map_or(0, |units| units.len() as u64)),
-        );
-        if let Some(checker) = checker {
+        let files = made(maker, FILES, seed);
+        let bytes = mean_length(&files);
+        let reader = best(&files, |file| check(file).map_or(0, |units| units.len() as u64));
+        report(name, bytes, "Rust reader", reader);
+        if let Some(checker) = library.check {
             let mut units = vec![0; MOST_UNITS];
-            report(
-                name,
-                bytes,
-                "check_file",
-                best(&files, |file| checker(file, &mut units)),
-            );
+            let library = best(&files, |file| checker(file, &mut units));
+            report(name, bytes, "check_file", library);
         }
     }
-    if checker.is_none() {
-        println!("built without the proved library: only the Rust reader was timed");
+    if library.check.is_none() {
+        println!("built without the proved library: only the Rust was timed");
     }
+    #[cfg(original)]
+    analysis::run(library, seed);
+    #[cfg(not(original))]
+    println!("built without the original: the analysis was not timed");
+}
+
+fn made(maker: Maker, count: usize, seed: u64) -> Vec<Vec<u8>> {
+    let mut random = Random::new(seed);
+    (0..count).map(|_| maker(&mut random)).collect()
+}
+
+fn mean_length(files: &[Vec<u8>]) -> usize {
+    files.iter().map(Vec::len).sum::<usize>() / files.len()
 }
 
 fn report(name: &str, bytes: usize, who: &str, nanoseconds: f64) {
@@ -60,7 +67,7 @@ fn report(name: &str, bytes: usize, who: &str, nanoseconds: f64) {
 }
 
 /// Nanoseconds per file in the best round.
-fn best(files: &[Vec<u8>], mut call: impl FnMut(&[u8]) -> u64) -> f64 {
+fn best<T>(files: &[T], mut call: impl FnMut(&T) -> u64) -> f64 {
     let mut repeats = 1;
     while round(files, repeats, &mut call) < ROUND_NANOSECONDS {
         repeats *= 2;
@@ -69,7 +76,7 @@ fn best(files: &[Vec<u8>], mut call: impl FnMut(&[u8]) -> u64) -> f64 {
     fastest.unwrap_or(0) as f64 / (repeats * files.len()) as f64
 }
 
-fn round(files: &[Vec<u8>], repeats: usize, call: &mut impl FnMut(&[u8]) -> u64) -> u128 {
+fn round<T>(files: &[T], repeats: usize, call: &mut impl FnMut(&T) -> u64) -> u128 {
     let start = Instant::now();
     for _ in 0..repeats {
         for file in files {

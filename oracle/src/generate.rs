@@ -1,8 +1,10 @@
 //! Makes program files from a seed: valid ones of every shape, ones at and over the limits, and damaged ones.
 
+pub mod chain;
 pub mod damage;
 pub mod limits;
 pub mod realistic;
+pub mod sample;
 pub mod valid;
 
 use crate::draft::Draft;
@@ -19,6 +21,7 @@ pub enum Shape {
     Realistic,
     RealisticLarge,
     AtLimit,
+    Chain,
     OverLimit,
     Damaged,
     DamagedLarge,
@@ -40,11 +43,36 @@ const SHARES: [(Shape, usize); 11] = [
     (Shape::Soup, 8),
 ];
 
+/// The shares of a run for the analysis, which needs accepted files.
+const ANALYSIS_SHARES: [(Shape, usize); 12] = [
+    (Shape::Small, 42),
+    (Shape::Middle, 15),
+    (Shape::Large, 2),
+    (Shape::EveryOperation, 8),
+    (Shape::Realistic, 5),
+    (Shape::RealisticLarge, 2),
+    (Shape::AtLimit, 10),
+    (Shape::Chain, 1),
+    (Shape::OverLimit, 2),
+    (Shape::Damaged, 8),
+    (Shape::DamagedLarge, 3),
+    (Shape::Soup, 2),
+];
+
 /// The file of this index in the run of this seed.
 pub fn file(seed: u64, index: u64) -> (Shape, Vec<u8>) {
+    mixed_file(&SHARES, seed, index)
+}
+
+/// The same for a run that compares the analysis.
+pub fn analysis_file(seed: u64, index: u64) -> (Shape, Vec<u8>) {
+    mixed_file(&ANALYSIS_SHARES, seed, index)
+}
+
+fn mixed_file(shares: &[(Shape, usize)], seed: u64, index: u64) -> (Shape, Vec<u8>) {
     let mut random = Random::for_file(seed, index);
-    let weights = SHARES.map(|(_, weight)| weight);
-    let shape = SHARES[random.weighted(&weights)].0;
+    let weights: Vec<usize> = shares.iter().map(|(_, weight)| *weight).collect();
+    let shape = shares[random.weighted(&weights)].0;
     (shape, file_of(&mut random, shape))
 }
 
@@ -57,6 +85,7 @@ pub fn file_of(random: &mut Random, shape: Shape) -> Vec<u8> {
         Shape::Realistic => small_realistic(random).bytes(),
         Shape::RealisticLarge => large_realistic(random).bytes(),
         Shape::AtLimit => limits::limit_file(random, 0).bytes(),
+        Shape::Chain => chain::any_chain(random).bytes(),
         Shape::OverLimit => {
             let over = random.pick(&[1, 1, 1, 2, 5]);
             limits::limit_file(random, over).bytes()

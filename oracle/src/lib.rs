@@ -1,11 +1,15 @@
-//! The Rust that judges the proved checker of program files.
+//! The Rust that judges the proved library on program files.
 
+#[cfg(original)]
+pub mod analysis;
 pub mod bench;
 pub mod compare;
+pub mod difference;
 pub mod draft;
+pub mod entry;
 pub mod explain;
 pub mod generate;
-pub mod entry;
+pub mod lent;
 #[cfg(original)]
 pub mod original;
 pub mod program;

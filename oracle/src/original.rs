@@ -1,5 +1,6 @@
 //! The original analysis and allocator, unchanged, on decoded programs.
 
+pub mod answers;
 mod steps;
 pub mod text;
 
@@ -123,6 +124,17 @@ impl Original {
                 .map(|(one, other)| (number(one), number(other)))
                 .collect(),
         }
+    }
+
+    /// Live sets of every function and the graph, in the original's types, to be timed. Gives their sizes added up.
+    pub fn analyse(&self) -> usize {
+        let functions = self.program.all_functions();
+        let live = functions.map(|function| analysis::liveness(function, &self.semantics));
+        let lanes: usize = live
+            .map(|sets| sets.live_in.values().map(BTreeSet::len).sum::<usize>())
+            .sum();
+        let (graph, copies) = analysis::interference_graph(&self.program);
+        lanes + graph.len() + copies.len()
     }
 
     /// Nothing where the allocator was not built for the header's sizes.

@@ -43,6 +43,14 @@ pub const MOST_FUNCTIONS: usize = 64;
 pub const MOST_BLOCKS: usize = 128;
 pub const MOST_UNITS: usize = 512;
 
+/// The words of a row of units, and of a row of storages.
+pub const UNIT_ROW: usize = MOST_UNITS / 64;
+pub const STORAGE_ROW: usize = 256 / 64;
+/// The needed words of live sets: a row for the live-in and one for the live-out of each block.
+pub const LIVE_WORDS: usize = 2 * MOST_BLOCKS * UNIT_ROW;
+/// The needed words of the graph, and of the copies: a row for each id.
+pub const GRAPH_WORDS: usize = 256 * STORAGE_ROW;
+
 pub const ROLE_PARAMETER: u8 = 0;
 pub const ROLE_RESULT: u8 = 1;
 pub const ROLE_CLOBBERED: u8 = 2;

@@ -43,6 +43,7 @@ fn valid_shapes_are_accepted() {
         Shape::Realistic,
         Shape::RealisticLarge,
         Shape::AtLimit,
+        Shape::Chain,
     ];
     for shape in shapes {
         for seed in 0..200 {

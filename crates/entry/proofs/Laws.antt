@@ -1,18 +1,27 @@
--- The packed number says what check answered, since check's contract is an equation with its one outcome.
--- Each way that check answers is one law.
-use mathlib.Core.Path.{_≡_, sym, ap}
-use Prim.Native.Nat.{ℕ, _+_, _*_, _%_}
+-- The packed number says what an operation answered, since each operation's contract is an equation with its one outcome.
+-- So each law takes that equation apart, field by field.
+use mathlib.Core.Path.{_≡_, sym, ap, _∙_}
+use Prim.Native.Nat.{ℕ, _%_}
 use mathlib.Core.List.{List}
-use Rattle.records.specs.Refusal.{numberOf, valueOf}
 use Rattle.records.specs.Outcome.{Outcome, Checks}
 use Rattle.records.specs.declared.Checked.{Checked}
 use Rattle.records.specs.declared.Checked.the-variants.{Units, Refused}
 use Rattle.records.specs.declared.Refusal.{Refusal}
-use Rattle.entry.specs.Answer.{packed, Answers}
+use Rattle.units.specs.Ask.{Query, Asked, Asks, Told, Tells}
+use Rattle.units.specs.declared.Answered.{Answered}
+use Rattle.units.specs.declared.Answered.the-variants as answered
+use Rattle.units.specs.declared.Effect.{Effect}
+use Rattle.entry.specs.Answer.{packed, countOf, filledOf, effectOf, Answers, Fills, Says}
 
-module _ (f before words : List ℕ) (a : Checked) (h : Checks f before a words) where
-  pub answers-units : (n : ℕ) → a ≡ Units n → Answers f before (n % 4294967296) words
-  answers-units n e = (sym (rw (sym (ap (λ (o : Outcome). o .answer) h), e)), ap (λ (o : Outcome). o .words) h)
+pub answers : (f before words : List ℕ) (a b : Checked) (r : ℕ) → Checks f before a words → a ≡ b → r ≡ countOf b → Answers f before r words
+answers f before words a b r h e p = (p ∙ ap countOf (sym e ∙ ap (λ (o : Outcome). o .answer) h), ap (λ (o : Outcome). o .words) h)
 
-  pub answers-refused : (x : Refusal) (number value : ℕ) → a ≡ Refused x → number ≡ numberOf x → value ≡ valueOf x → Answers f before (number * 4294967296 + value % 4294967296) words
-  answers-refused x number value e p q = (rw (p, q) (sym (rw (sym (ap (λ (o : Outcome). o .answer) h), e))), ap (λ (o : Outcome). o .words) h)
+pub fills : (q : Query) (n : ℕ) (f : List ℕ) (place : ℕ) (before row units′ row′ : List ℕ) (a : Answered) (r : ℕ)
+    → Asks q n f place before row a units′ row′ → r ≡ filledOf a → Fills q n f place before row r units′ row′
+fills q n f place before row units′ row′ a r h p = (p ∙ ap (λ (o : Asked). filledOf (o .answer)) h, ap (λ (o : Asked). o .units) h, ap (λ (o : Asked). o .row) h)
+
+pub says : (f : List ℕ) (place : ℕ) (before units′ : List ℕ) (a b : Effect) (r : ℕ) → Tells f place before a units′ → a ≡ b → r ≡ effectOf b → Says f place before r units′
+says f place before units′ a b r h e p = (p ∙ ap effectOf (sym e ∙ ap (λ (o : Told). o .answer) h), ap (λ (o : Told). o .units) h)
+
+pub filled-refused : (a : Answered) (x : Refusal) (n : ℕ) → a ≡ answered.Refused x → n ≡ packed x → n ≡ filledOf a
+filled-refused a x n e p = rw e p

@@ -1,18 +1,43 @@
--- The answer of check as one number.
+-- The answers of the public operations as one number.
 use mathlib.Core.Path.{_≡_}
 use Prim.Native.Nat.{ℕ, _+_, _*_, _%_}
 use mathlib.Core.List.{List}
 use Rattle.records.specs.Edition.{one}
 use Rattle.records.specs.Refusal.{numberOf, valueOf}
 use Rattle.records.specs.Outcome.{Outcome, outcome}
+use Rattle.records.specs.declared.Refusal.{Refusal}
 use Rattle.records.specs.declared.Checked.{Checked}
-use Rattle.records.specs.declared.Checked.the-variants.{Units, Refused}
+use Rattle.records.specs.declared.Checked.the-variants as checked
+use Rattle.units.specs.Ask.{Query, Asked, asked, Told, told}
+use Rattle.units.specs.declared.Answered.{Answered}
+use Rattle.units.specs.declared.Answered.the-variants as answered
+use Rattle.units.specs.declared.Effect.{Effect}
+use Rattle.units.specs.declared.Effect.the-variants as effects
 
--- The low half is the count of units or a refusal's value, the high half the refusal's number or 0. All counts and values of check are below 2^32.
-abbrev pub packed : Checked → ℕ
-packed (Units n) = n % 4294967296
-packed (Refused r) = numberOf r * 4294967296 + valueOf r % 4294967296
+-- The low half is a refusal's value, the high half its number. All values of these operations are below 2^32 for a place asked that is.
+abbrev pub packed : Refusal → ℕ
+packed r = numberOf r * 4294967296 + valueOf r % 4294967296
 
--- The number and the buffer afterwards are those of check's one outcome.
+abbrev pub countOf : Checked → ℕ
+countOf (checked.Units n) = n % 4294967296
+countOf (checked.Refused r) = packed r
+
+abbrev pub filledOf : Answered → ℕ
+filledOf answered.Done = 0
+filledOf (answered.Refused r) = packed r
+
+abbrev pub effectOf : Effect → ℕ
+effectOf effects.Yes = 1
+effectOf effects.No = 0
+effectOf (effects.Refused r) = packed r
+
+-- The number and the buffers afterwards are those of the operation's one outcome.
 abbrev pub Answers : List ℕ → List ℕ → ℕ → List ℕ → Type 0
-Answers f before r words = (r ≡ packed (outcome one f before .answer)) × (words ≡ outcome one f before .words)
+Answers f before r words = (r ≡ countOf (outcome one f before .answer)) × (words ≡ outcome one f before .words)
+
+abbrev pub Fills : Query → ℕ → List ℕ → ℕ → List ℕ → List ℕ → ℕ → List ℕ → List ℕ → Type 0
+Fills q width f place before row r units′ row′ =
+    (r ≡ filledOf (asked q one width f place before row .answer)) × (units′ ≡ asked q one width f place before row .units) × (row′ ≡ asked q one width f place before row .row)
+
+abbrev pub Says : List ℕ → ℕ → List ℕ → ℕ → List ℕ → Type 0
+Says f place before r units′ = (r ≡ effectOf (told one f place before .answer)) × (units′ ≡ told one f place before .units)

@@ -52,3 +52,19 @@ functions (suc n) = 2 ∷ n ∷ functions n
 
 unfoldable pub crowded : List ℕ
 crowded = header ++ functions 65 ++ (9 ∷ [])
+
+-- One function, 0, that has no block.
+unfoldable pub noBlocks : List ℕ
+noBlocks = header ++ (2 ∷ 0 ∷ 9 ∷ [])
+
+-- The one block, of id 5, of function 0 pushes lane 0 of storage 0 and jumps to the block of an id.
+unfoldable pub jumping : ℕ → List ℕ
+jumping id = header ++ storage 0 1 4 ++ (2 ∷ 0 ∷ 4 ∷ 5 ∷ 0 ∷ 5 ∷ 14 ∷ 0 ∷ 0 ∷ []) ++ lane 0 0 ++ (7 ∷ 0 ∷ 0 ∷ 0 ∷ 8 ∷ id ∷ 0 ∷ 9 ∷ [])
+
+-- Function 0 pops lane 0 of storage 1, calls function 1, pushes lane 0 of storage 0 and traps. Function 1 clobbers storage 0 and has no block.
+unfoldable pub clobbering : List ℕ
+clobbering =
+    header ++ storage 0 1 4 ++ storage 1 1 4
+    ++ (2 ∷ 0 ∷ 4 ∷ 0 ∷ 0 ∷ 5 ∷ 15 ∷ 0 ∷ 0 ∷ []) ++ lane 0 1
+    ++ (5 ∷ 27 ∷ 0 ∷ 1 ∷ 5 ∷ 14 ∷ 0 ∷ 0 ∷ []) ++ lane 0 0 ++ (7 ∷ 6 ∷ 0 ∷ 0 ∷ [])
+    ++ (2 ∷ 1 ∷ 3 ∷ 2 ∷ 3 ∷ 0 ∷ 0 ∷ 0 ∷ 0 ∷ 9 ∷ [])

@@ -1,12 +1,12 @@
 // The program file: what a record is, what it may hold, and `check`, which answers every byte string.
 // Knows bytes and bit rows; gives the refusals, the reader of records with their fields, and the numbered units of a file.
-mod bytes;
+pub mod bytes;
 mod naming;
 mod pending;
 mod ranges;
 mod reader;
 mod step;
-mod table;
+pub mod table;
 mod units;
 mod walk;
 

@@ -8,18 +8,34 @@ use crate::explain::explain;
 use crate::program::{decode, Function, Program};
 use crate::reader::check;
 
-/// Ends before the placement where the allocator was not built for the file's sizes.
+/// Units, live sets, queries, graph and copies.
+pub fn explain_analysis(file: &[u8]) -> String {
+    let mut text = explain(file);
+    if let Ok(units) = check(file) {
+        let program = decode(file);
+        analysis_part(&mut text, &program, &Original::new(&program), &units);
+    }
+    text
+}
+
+/// The same and the placement, where the allocator was built for the file's sizes.
 pub fn explain_whole(file: &[u8]) -> String {
     let mut text = explain(file);
     if let Ok(units) = check(file) {
-        let numbers = units.iter().enumerate().map(|(number, word)| (*word, number)).collect();
         let program = decode(file);
         let original = Original::new(&program);
-        let passes = live_part(&mut text, &program, &original, &numbers);
-        graph_part(&mut text, &program, &original, passes);
+        let passes = analysis_part(&mut text, &program, &original, &units);
         place_part(&mut text, &program, &original, passes);
     }
     text
+}
+
+/// Gives the passes summed over the functions.
+fn analysis_part(text: &mut String, program: &Program, original: &Original, units: &[u32]) -> usize {
+    let numbers = units.iter().enumerate().map(|(number, word)| (*word, number)).collect();
+    let passes = live_part(text, program, original, &numbers);
+    graph_part(text, program, original, passes);
+    passes
 }
 
 /// Writing to a string cannot fail, so one place says so.

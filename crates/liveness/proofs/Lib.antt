@@ -1,0 +1,11 @@
+pub mod Laws
+pub mod More
+pub mod Renumber
+pub mod SetLaws
+pub mod SettleLaws
+pub mod Squash
+pub mod Numbered
+pub mod Rows
+pub mod UseLaws
+pub mod Blocks
+pub mod Passing

@@ -1,0 +1,122 @@
+-- What the program's functions say of a number is what the table says, else what is to come says (`Indexing`); where the walk stops, nothing is to come.
+-- The measure is what is left of the file.
+use Prim.Native.Nat.{_+_, _-_}
+use lib.ListN.{length}
+use native.Mathlib.Omega.{arith}
+use borrow.Author.Needs.{needs}
+use Rattle.units.proofs.Indexing.{Indexing, indexing-start, at-two, at-len, brings-long, indexing-on, indexing-end}
+use Rattle.units.proofs.index.index_functions.Statement.{statement}
+use Rattle.units.proofs.index.index_functions.Tie as tie
+
+abbrev Inv-loop : tie.InvT-loop
+Inv-loop file table₀ at₀ k₀ len₀ table at k len = Indexing file table at k len
+
+abbrev μ-loop : tie.MeasureT-loop
+μ-loop file table₀ at₀ k₀ len₀ table at k len = length file - at
+
+blank-requires : tie.Need-blank-requires Inv-loop μ-loop
+blank-requires c κs = search needs
+
+onward-requires : tie.Need-onward-requires Inv-loop μ-loop
+onward-requires c κs = search needs
+
+loop-holds : tie.Need-loop-holds Inv-loop μ-loop
+loop-holds c =
+    let s = c .before .before .before .before .before .before .before in
+    indexing-start (s .args .file .now) (c .before .before .before .blank .last .0) (c .onward .result) (omega (arith, c .before .before .table .given, s .pre .1)) (c .before .before .before .blank .ensures) (c .onward .ensures)
+
+shared-slice-read-kind : tie.Need-shared-slice-read-kind Inv-loop μ-loop
+shared-slice-read-kind c =
+    let s = c .before .before .before .before .before .before .before .before .before .before in
+    let l = c .before .before .loop in
+    omega (arith, at-two (s .args .file .now) (l .table) (l .at) (l .k) (l .len) (l .inv) (s .pre .0) (c .before .loop-test .taken), s .pre .0)
+
+add-enter : tie.Need-add-enter Inv-loop μ-loop
+add-enter c =
+    let s = c .before .before .before .before .before .before .before .before .before .before .before in
+    let l = c .before .before .before .loop in
+    omega (arith, at-two (s .args .file .now) (l .table) (l .at) (l .k) (l .len) (l .inv) (s .pre .0) (c .before .before .loop-test .taken), s .pre .0)
+
+shared-slice-read-enter : tie.Need-shared-slice-read-enter Inv-loop μ-loop
+shared-slice-read-enter c =
+    let s = c .before .before .before .before .before .before .before .before .before .before .before .before in
+    let l = c .before .before .before .before .loop in
+    omega (arith, at-two (s .args .file .now) (l .table) (l .at) (l .k) (l .len) (l .inv) (s .pre .0) (c .before .before .before .loop-test .taken), s .pre .0)
+
+add-enter-2 : tie.Need-add-enter-2 Inv-loop μ-loop
+add-enter-2 c =
+    let s = c .before .before .before .before .before .before .before .before .before .before .before .before in
+    let l = c .before .before .before .before .loop in
+    omega (arith, at-two (s .args .file .now) (l .table) (l .at) (l .k) (l .len) (l .inv) (s .pre .0) (c .before .before .before .loop-test .taken), s .pre .0)
+
+enter-requires : tie.Need-enter-requires Inv-loop μ-loop
+enter-requires c κs =
+    let s = c .before .before .before .before .before .before .before .before .before .before .before .before in
+    let l = c .before .before .before .before .loop in
+    (l .inv .many, omega (arith, at-two (s .args .file .now) (l .table) (l .at) (l .k) (l .len) (l .inv) (s .pre .0) (c .before .before .before .loop-test .taken), s .pre .0), omega (arith, at-two (s .args .file .now) (l .table) (l .at) (l .k) (l .len) (l .inv) (s .pre .0) (c .before .before .before .loop-test .taken), s .pre .0, l .inv .early))
+
+brings-requires : tie.Need-brings-requires Inv-loop μ-loop
+brings-requires c κs = search needs
+
+add-k : tie.Need-add-k Inv-loop μ-loop
+add-k c =
+    let s = c .before .before .before .before .before .before .before .before .before .before .before .before .before .before .before .before in
+    let l = c .before .before .before .before .before .before .before .before .loop in
+    omega (arith, at-len (s .args .file .now) (l .table) (l .at) (l .k) (l .len) (l .inv) (s .pre .0) (c .before .before .before .before .before .before .before .loop-test .taken), brings-long (s .args .file .now) (l .table) (l .at) (l .k) (l .len) (l .inv) (s .pre .0) (c .before .before .before .before .before .before .before .loop-test .taken), s .pre .0, c .brings .ensures, l .inv .early)
+
+add-at : tie.Need-add-at Inv-loop μ-loop
+add-at c =
+    let s = c .before .before .before .before .before .before .before .before .before .before .before .before .before .before .before .before in
+    let l = c .before .before .before .before .before .before .before .before .loop in
+    omega (arith, at-len (s .args .file .now) (l .table) (l .at) (l .k) (l .len) (l .inv) (s .pre .0) (c .before .before .before .before .before .before .before .loop-test .taken), s .pre .0)
+
+onward-requires-2 : tie.Need-onward-requires-2 Inv-loop μ-loop
+onward-requires-2 c κs = search needs
+
+loop-less : tie.Need-loop-less Inv-loop μ-loop
+loop-less c =
+    let s = c .before .before .before .before .before .before .before .before .before .before .before .before .before .before .before .before .before in
+    let l = c .before .before .before .before .before .before .before .before .before .loop in
+    omega (arith, at-two (s .args .file .now) (l .table) (l .at) (l .k) (l .len) (l .inv) (s .pre .0) (c .before .before .before .before .before .before .before .before .loop-test .taken), at-len (s .args .file .now) (l .table) (l .at) (l .k) (l .len) (l .inv) (s .pre .0) (c .before .before .before .before .before .before .before .before .loop-test .taken), s .pre .0, c .before .before .before .before .before .before .before .before .loop-test .taken)
+
+loop-again : tie.Need-loop-again Inv-loop μ-loop
+loop-again c =
+    let s = c .before .before .before .before .before .before .before .before .before .before .before .before .before .before .before .before .before in
+    let l = c .before .before .before .before .before .before .before .before .before .loop in
+    indexing-on (s .args .file .now) (l .table) (l .at) (l .k) (l .len) (l .inv) (s .pre .0) (c .before .before .before .before .before .before .before .before .loop-test .taken) (omega (arith, c .before .before .before .before .before .shared-slice-known3 .given (l .at + 1)))
+    _ (c .before .brings .result) (c .onward2 .result) (c .before .before .before .before .enter .ensures) (c .before .brings .ensures) (c .onward2 .ensures)
+
+same-length : tie.Need-same-length Inv-loop μ-loop
+same-length c =
+    let s = c .before .before .before .before .before .before .before .before .before in
+    let l = c .before .loop in
+    omega (arith, l .inv .many, s .pre .1)
+
+returns : tie.Need-returns Inv-loop μ-loop
+returns c =
+    let s = c .before .before .before .before .before .before .before .before .before in
+    let l = c .before .loop in
+    indexing-end (s .args .file .now) (l .table) (l .at) (l .k) (l .len) (l .inv) (omega (arith, c .loop-test .left))
+
+pub index-functions-spec : {M : Type 1} → statement M
+index-functions-spec =
+    tie.close
+    (tie.spec
+    Inv-loop
+    μ-loop
+    blank-requires
+    onward-requires
+    loop-holds
+    shared-slice-read-kind
+    add-enter
+    shared-slice-read-enter
+    add-enter-2
+    enter-requires
+    brings-requires
+    add-k
+    add-at
+    onward-requires-2
+    loop-less
+    loop-again
+    same-length
+    returns)

@@ -1,0 +1,166 @@
+// The common work of the queries: the step at a place with its rows, and the storages of a row of units.
+ghost use mathlib.Core.Path.{_≡_};
+ghost use mathlib.Core.List.{List};
+ghost use Prim.Native.Nat.{ℕ, _+_, _/_, _%_, _≤_};
+ghost use lib.ListN.{length, take, replicate};
+ghost use Rattle.rows.specs.Row.{pack};
+ghost use Rattle.records.specs.Pick.{has};
+ghost use Rattle.records.specs.Edition.{one};
+ghost use Rattle.records.specs.Check.{units, check, numbers as numbersOf};
+ghost use Rattle.records.specs.Program.{Function, empty, program, stepOf};
+ghost use Rattle.units.specs.Uses.{reads as readsOf, writes as writesOf, effect};
+ghost use Rattle.units.specs.Rows.{unitRow};
+ghost use Rattle.units.specs.Along.{from, stepFrom, IsStep, StandsAt, Sound};
+ghost use Rattle.units.specs.Ask.{yesNo};
+ghost use Rattle.units.specs.Seek.{Seeks, Shows, given, storagesBelow};
+use crate::Answered;
+use crate::Effect;
+use crate::cursor::Cursor;
+use crate::index::index_functions;
+use crate::locate::Located;
+use crate::locate::locate;
+use crate::uses::uses_at;
+use records::Checked;
+use records::Refusal;
+
+// The step at a place: the cursor behind its function's record and its own; or a refusal.
+pub enum Sought {
+    Here { own: Cursor, here: Cursor },
+    Refused(Refusal),
+}
+
+fn clear(words: &mut [u32])
+    ensures { λ _. ⌜ now (words .exit) ≡ replicate (length (now (words .entry))) 0 ⌝ }
+{
+    let mut i = 0;
+    while i < words.len() {
+        words[i] = 0;
+        i += 1;
+    }
+}
+
+// Checks the file and looks for the step. Where there is none, the unit words are cleared again.
+pub fn find_step(file: &[u8], place: usize, words: &mut [u32], numbers: &mut [u16]) -> Sought
+    requires { ⌜ (length (now words) ≡ 512) × (2341 ≤ length (now numbers)) ⌝ }
+    ensures { λ r. ⌜ Seeks (now (file .entry)) place r (now (words .exit)) (now (numbers .exit)) ⌝ }
+{
+    match records::number_units(file, words, numbers) {
+        Checked::Units(_) => match locate(file, place) {
+            Located::At { own, here } => Sought::Here { own, here },
+            Located::Nowhere => {
+                clear(words);
+                Sought::Refused(Refusal::Absent(place))
+            }
+        },
+        Checked::Refused(r) => Sought::Refused(r),
+    }
+}
+
+// What the step at `here` reads and writes, by a table of functions of its own.
+fn uses_of(
+    file: &[u8],
+    numbers: &[u16],
+    own: Cursor,
+    here: Cursor,
+    reads: &mut [u64],
+    writes: &mut [u64],
+)
+    requires { ⌜ (length (now file) ≤ 16384) × (2341 ≤ length (now numbers)) × Sound own × Sound here × (here .at + 4 ≤ length (now file))
+        × (length (now reads) ≡ 8) × (length (now writes) ≡ 8) ⌝ }
+    ensures { λ _. ⌜ ((us : List ℕ) (f : Function) → check one (now (file .entry)) ≡ units us
+        → take (length (numbersOf one (now (file .entry)))) (now (numbers .entry)) ≡ numbersOf one (now (file .entry)) → StandsAt (now (file .entry)) own
+        → f .abis ≡ from (now (file .entry)) (own .at) .abis → StandsAt (now (file .entry)) here → IsStep (now (file .entry)) (here .at)
+        → (now (reads .exit) ≡ unitRow one us (readsOf one (program one (now (file .entry))) f (stepFrom (now (file .entry)) (here .at))))
+        × (now (writes .exit) ≡ unitRow one us (writesOf one (program one (now (file .entry))) (stepFrom (now (file .entry)) (here .at))))) ⌝ }
+{
+    let mut table = [0u16; 512];
+    index_functions(file, &mut table);
+    uses_at(file, numbers, &table, own, here, reads, writes);
+}
+
+// Both rows of the step at a place.
+pub fn rows_at(
+    file: &[u8],
+    place: usize,
+    words: &mut [u32],
+    reads: &mut [u64],
+    writes: &mut [u64],
+) -> Answered
+    requires { ⌜ (length (now words) ≡ 512) × (length (now reads) ≡ 8) × (length (now writes) ≡ 8) ⌝ }
+    ensures { λ r. ⌜ Shows (now (file .entry)) place r (now (words .exit)) (now (reads .exit)) (now (writes .exit)) ⌝ }
+{
+    let mut numbers = [0u16; 2341];
+    match find_step(file, place, words, &mut numbers) {
+        Sought::Here { own, here } => {
+            uses_of(file, &numbers, own, here, reads, writes);
+            Answered::Done
+        }
+        Sought::Refused(r) => Answered::Refused(r),
+    }
+}
+
+// Hands a found row over to the lent one, which a refusal leaves as it is.
+pub fn give_row(r: Answered, found: &[u64], n: usize, row: &mut [u64]) -> Answered
+    requires { ⌜ (length (now found) ≡ n) × (n ≤ length (now row)) ⌝ }
+    ensures { λ a. ⌜ (a ≡ r) × (now (row .exit) ≡ given r (now (found .entry)) n (now (row .entry))) ⌝ }
+{
+    match r {
+        Answered::Done => {
+            rows::copy_row(row, 0, found, 0, n);
+            Answered::Done
+        }
+        Answered::Refused(x) => Answered::Refused(x),
+    }
+}
+
+// The storage that a unit's word names.
+fn storage_in(word: u32) -> usize
+    ensures { λ r. ⌜ r ≡ word / 65536 % 256 ⌝ }
+{
+    (word / 65536 % 256) as usize
+}
+
+// The storages of a row of units.
+pub fn storages_of(words: &[u32], units: &[u64], row: &mut [u64])
+    requires { ⌜ (512 ≤ length (now words)) × (length (now units) ≡ 8) × (length (now row) ≡ 4) ⌝ }
+    ensures { λ _. ⌜ now (row .exit) ≡ pack 4 (λ i. has i (storagesBelow (now (words .entry)) (now (units .entry)) 512)) ⌝ }
+{
+    rows::clear(row, 0, 4);
+    let mut n = 0;
+    while n < 512 {
+        if rows::has(units, 0, n) {
+            rows::insert(row, 0, storage_in(words[n]));
+        }
+        n += 1;
+    }
+}
+
+// Steps that may not be dropped though nothing reads what they write.
+fn effect_of(ends: bool, op: u8, sub: u8) -> bool
+    ensures { λ r. ⌜ r ≡ effect (stepOf ends op sub 0 empty) ⌝ }
+{
+    if ends {
+        return false;
+    }
+    if op == 10 {
+        return true;
+    }
+    if op == 26 {
+        return 1 <= sub && sub <= 4;
+    }
+    if op <= 15 {
+        return 12 <= op;
+    }
+    27 <= op && op <= 29
+}
+
+// The effect of the step whose record begins at `at`.
+pub fn effect_at(file: &[u8], at: usize) -> Effect
+    requires { ⌜ at + 4 ≤ length (now file) ⌝ }
+    ensures { λ r. ⌜ r ≡ yesNo (effect (stepFrom (now (file .entry)) at)) ⌝ }
+{
+    if effect_of(file[at] == 7, file[at + 1], file[at + 2]) {
+        return Effect::Yes;
+    }
+    Effect::No
+}

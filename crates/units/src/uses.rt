@@ -1,0 +1,244 @@
+// What a step reads and writes, as two rows of units, in one visit to its record and operands.
+ghost use mathlib.Core.Path.{_≡_};
+ghost use mathlib.Core.List.{List};
+ghost use Prim.Native.Nat.{ℕ, _+_, _*_, _≤_};
+ghost use lib.ListN.{length, getD};
+ghost use Rattle.records.specs.Table.{rowWord};
+ghost use Rattle.records.specs.Edition.{one};
+ghost use Rattle.records.specs.Check.{units, check};
+ghost use Rattle.records.specs.Program.{Function, program, rowBy};
+ghost use Rattle.units.specs.Uses.{reads as readsOf, writes as writesOf};
+ghost use Rattle.units.specs.Rows.{unitRow};
+ghost use Rattle.units.specs.Along.{from, stepFrom, IsStep, StandsAt, Sound, Sane, Ready};
+ghost use Rattle.units.specs.Marks.{jotted, marks, rolesFrom, fieldsFrom, sevenAt, wantedBy, readIn, writtenIn, readSource, writtenSource, readRole};
+use crate::cursor::Cursor;
+use records::table::end_entry_of;
+use records::table::entry_of;
+use records::table::field_in;
+
+// The fields of a table's entry, without the count in its highest byte.
+const ABOVE: u64 = 0x0100_0000_0000_0000;
+
+// Which ABI records are wanted.
+const PARAMETERS: u8 = 0;
+
+const RESULTS: u8 = 1;
+
+const OUTCOMES: u8 = 2;
+
+// A unit's number goes into a row where it is wanted; what is no unit has a number past the last.
+fn note(row: &mut [u64], n: u16, wanted: bool)
+    requires { ⌜ length (now row) ≡ 8 ⌝ }
+    ensures { λ _. ⌜ now (row .exit) ≡ jotted wanted n (now (row .entry)) ⌝ }
+{
+    if wanted {
+        if n < 512 {
+            rows::insert(row, 0, n as usize);
+        }
+    }
+}
+
+// A whole record of seven bytes and of this kind stands here.
+fn seven(file: &[u8], at: usize, kind: u8) -> bool
+    ensures { λ r. ⌜ r ≡ sevenAt (now (file .entry)) at kind ⌝ }
+{
+    if file.len() <= at {
+        return false;
+    }
+    if file.len() - at < 7 {
+        return false;
+    }
+    file[at] == kind
+}
+
+fn wanted(role: u8, which: u8) -> bool
+    ensures { λ r. ⌜ r ≡ wantedBy which role ⌝ }
+{
+    if which == PARAMETERS {
+        return role == 0;
+    }
+    if which == RESULTS {
+        return role == 1;
+    }
+    if role == 0 {
+        return false;
+    }
+    true
+}
+
+// The units of the ABI records from a cursor on whose roles are wanted.
+fn abi_row(file: &[u8], numbers: &[u16], from: Cursor, which: u8, row: &mut [u64])
+    requires { ⌜ (length (now file) ≤ 16384) × (2341 ≤ length (now numbers)) × Sound from × (length (now row) ≡ 8) ⌝ }
+    ensures { λ _. ⌜ now (row .exit) ≡ marks (wantedBy which) (now (numbers .entry)) (from .k) (rolesFrom (now (file .entry)) (from .at)) (now (row .entry)) ⌝ }
+{
+    let mut at = from.at;
+    let mut k = from.k;
+    while seven(file, at, 3) {
+        note(row, numbers[k], wanted(file[at + 1], which));
+        at += 7;
+        k += 1;
+    }
+}
+
+// Whether a step reads a field, and whether it writes it: a terminator writes none.
+fn is_read(fields: u64, field: u8) -> bool
+    ensures { λ r. ⌜ r ≡ readIn fields field ⌝ }
+{
+    field_in(fields, field) / 64 % 2 == 1
+}
+
+fn is_written(fields: u64, ends: bool, field: u8) -> bool
+    ensures { λ r. ⌜ r ≡ writtenIn fields ends field ⌝ }
+{
+    if ends {
+        return false;
+    }
+    field_in(fields, field) / 32 % 2 == 1
+}
+
+// The units of the operands from a cursor on, by the fields of a row. Answers the cursor behind them.
+fn operand_rows(
+    file: &[u8],
+    numbers: &[u16],
+    from: Cursor,
+    fields: u64,
+    ends: bool,
+    reads: &mut [u64],
+    writes: &mut [u64],
+) -> Cursor
+    requires { ⌜ (length (now file) ≤ 16384) × (2341 ≤ length (now numbers)) × Sound from × (from .at ≤ length (now file))
+        × (length (now reads) ≡ 8) × (length (now writes) ≡ 8) ⌝ }
+    ensures { λ r. ⌜ (r .at ≡ from .at + 7 * length (fieldsFrom (now (file .entry)) (from .at))) × (r .k ≡ from .k + length (fieldsFrom (now (file .entry)) (from .at)))
+        × (r .at ≤ length (now (file .entry)))
+        × (now (reads .exit) ≡ marks (readIn fields) (now (numbers .entry)) (from .k) (fieldsFrom (now (file .entry)) (from .at)) (now (reads .entry)))
+        × (now (writes .exit) ≡ marks (writtenIn fields ends) (now (numbers .entry)) (from .k) (fieldsFrom (now (file .entry)) (from .at)) (now (writes .entry)))
+        × ((us : List ℕ) → check one (now (file .entry)) ≡ units us → StandsAt (now (file .entry)) from → StandsAt (now (file .entry)) r) ⌝ }
+{
+    let mut at = from.at;
+    let mut k = from.k;
+    while seven(file, at, 6) {
+        let field = file[at + 1];
+        let n = numbers[k];
+        note(reads, n, is_read(fields, field));
+        note(writes, n, is_written(fields, ends, field));
+        at += 7;
+        k += 1;
+    }
+    Cursor { at, k }
+}
+
+// The cursor behind the record of function n; far behind every file where there is none.
+fn callee_at(table: &[u16], n: u8) -> Cursor
+    requires { ⌜ Sane (now table) ⌝ }
+    ensures { λ r. ⌜ (r .at ≡ getD (now (table .entry)) n 0) × (r .k ≡ getD (now (table .entry)) (256 + n) 0) × Sound r ⌝ }
+{
+    let i = n as usize;
+    Cursor {
+        at: table[i] as usize,
+        k: table[256 + i] as usize,
+    }
+}
+
+// Whose ABI records a step reads: a call the callee's, Return those of its own function.
+fn read_source(ends: bool, op: u8, callee: Cursor, own: Cursor) -> Cursor
+    ensures { λ r. ⌜ r ≡ readSource ends op callee own ⌝ }
+{
+    let none = Cursor { at: 65535, k: 0 };
+    if ends {
+        if op == 3 {
+            return callee;
+        }
+        if op == 5 {
+            return own;
+        }
+        return none;
+    }
+    if op == 27 {
+        return callee;
+    }
+    none
+}
+
+fn read_role(ends: bool, op: u8) -> u8
+    ensures { λ r. ⌜ r ≡ readRole ends op ⌝ }
+{
+    if ends {
+        if op == 5 {
+            return RESULTS;
+        }
+        return PARAMETERS;
+    }
+    PARAMETERS
+}
+
+// Whose ABI records a step writes: Call the callee's. TailCall writes nothing.
+fn written_source(ends: bool, op: u8, callee: Cursor) -> Cursor
+    ensures { λ r. ⌜ r ≡ writtenSource ends op callee ⌝ }
+{
+    let none = Cursor { at: 65535, k: 0 };
+    if ends {
+        return none;
+    }
+    if op == 27 {
+        return callee;
+    }
+    none
+}
+
+// The fields of a step; none of a call and of Return.
+fn fields_of(ends: bool, op: u8, sub: u8) -> u64
+    ensures { λ r. ⌜ r ≡ rowWord (rowBy ends op sub) ⌝ }
+{
+    if ends {
+        return end_entry_of(op, sub) % ABOVE;
+    }
+    entry_of(op) % ABOVE
+}
+
+// The step at `here` reads and writes these units. Answers the cursor behind its operands.
+pub fn uses_at(
+    file: &[u8],
+    numbers: &[u16],
+    table: &[u16],
+    own: Cursor,
+    here: Cursor,
+    reads: &mut [u64],
+    writes: &mut [u64],
+) -> Cursor
+    requires { ⌜ (length (now file) ≤ 16384) × (2341 ≤ length (now numbers)) × Sane (now table) × Sound own × Sound here × (here .at + 4 ≤ length (now file))
+        × (length (now reads) ≡ 8) × (length (now writes) ≡ 8) ⌝ }
+    ensures { λ r. ⌜ Sound r × (here .at + 4 ≤ r .at) × (r .at ≤ length (now (file .entry)))
+        × (r .at ≡ here .at + 4 + 7 * length (from (now (file .entry)) (here .at + 4) .operands))
+        × ((us : List ℕ) (f : Function) → Ready (now (file .entry)) us (now (numbers .entry)) (now (table .entry)) → StandsAt (now (file .entry)) own
+        → f .abis ≡ from (now (file .entry)) (own .at) .abis → StandsAt (now (file .entry)) here → IsStep (now (file .entry)) (here .at)
+        → (now (reads .exit) ≡ unitRow one us (readsOf one (program one (now (file .entry))) f (stepFrom (now (file .entry)) (here .at))))
+        × (now (writes .exit) ≡ unitRow one us (writesOf one (program one (now (file .entry))) (stepFrom (now (file .entry)) (here .at))))
+        × StandsAt (now (file .entry)) r) ⌝ }
+{
+    rows::clear(reads, 0, 8);
+    rows::clear(writes, 0, 8);
+    let at = here.at;
+    let ends = file[at] == 7;
+    let op = file[at + 1];
+    let callee = callee_at(table, file[at + 3]);
+    abi_row(
+        file,
+        numbers,
+        read_source(ends, op, callee, own),
+        read_role(ends, op),
+        reads,
+    );
+    abi_row(
+        file,
+        numbers,
+        written_source(ends, op, callee),
+        OUTCOMES,
+        writes,
+    );
+    let fields = fields_of(ends, op, file[at + 2]);
+    let after = Cursor {
+        at: at + 4,
+        k: here.k,
+    };
+    operand_rows(file, numbers, after, fields, ends, reads, writes)
+}

@@ -1,0 +1,54 @@
+//! Times live sets of every function and the graph. The original starts from programs in its own types; the library starts
+//! from the files and checks them.
+
+use super::{best, made, mean_length, report, Maker, FILES};
+use crate::entry::Library;
+use crate::generate::{self, chain};
+use crate::original::Original;
+use crate::program::decode;
+use crate::records::*;
+
+/// Names, numbers of files and makers. The original takes long on the last set, so one file is enough.
+const SETS: [(&str, usize, Maker); 3] = [
+    ("analysis, 4 KB", FILES, |random| {
+        generate::small_realistic(random).bytes()
+    }),
+    ("analysis, 13 to 16 KB", FILES, |random| {
+        generate::large_realistic(random).bytes()
+    }),
+    ("analysis, 129 passes", 1, |random| {
+        chain::backward_chain(random, MOST_BLOCKS, 300).bytes()
+    }),
+];
+
+pub fn run(library: &Library, seed: u64) {
+    for (name, count, maker) in SETS {
+        let files = made(maker, count, seed);
+        let bytes = mean_length(&files);
+        let originals: Vec<Original> = files.iter().map(|file| Original::new(&decode(file))).collect();
+        let original = best(&originals, |original| original.analyse() as u64);
+        report(name, bytes, "original", original);
+        if let Some(nanoseconds) = time_library(library, &files) {
+            report(name, bytes, "library", nanoseconds);
+        }
+    }
+}
+
+/// Check, live sets of every function and graph, in lent buffers; nothing where the library lacks one of them.
+fn time_library(library: &Library, files: &[Vec<u8>]) -> Option<f64> {
+    let (check, live_of, graph_of) = (library.check?, library.live?, library.graph?);
+    let (mut units, mut live) = (vec![0; MOST_UNITS], vec![0; LIVE_WORDS]);
+    let (mut graph, mut copies) = (vec![0; GRAPH_WORDS], vec![0; GRAPH_WORDS]);
+    let with_numbers: Vec<(&Vec<u8>, Vec<u8>)> = files.iter().map(|file| (file, function_numbers(file))).collect();
+    Some(best(&with_numbers, |(file, numbers)| {
+        let mut sum = check(file, &mut units);
+        for number in numbers {
+            sum += live_of(file, usize::from(*number), &mut units, &mut live);
+        }
+        sum + graph_of(file, &mut units, &mut live, &mut graph, &mut copies)
+    }))
+}
+
+fn function_numbers(file: &[u8]) -> Vec<u8> {
+    decode(file).functions.iter().map(|function| function.number).collect()
+}
