@@ -11,7 +11,9 @@ use Rattle.units.specs.Ask.{Query, Asked, Asks, Told, Tells}
 use Rattle.units.specs.declared.Answered.{Answered}
 use Rattle.units.specs.declared.Answered.the-variants as answered
 use Rattle.units.specs.declared.Effect.{Effect}
-use Rattle.entry.specs.Answer.{packed, countOf, filledOf, effectOf, Answers, Fills, Says}
+use Rattle.liveness.specs.Lives as lives
+use Rattle.liveness.specs.declared.Lived.{Lived}
+use Rattle.entry.specs.Answer.{packed, countOf, filledOf, effectOf, passesOf, Answers, Fills, Says, Settles}
 
 pub answers : (f before words : List ℕ) (a b : Checked) (r : ℕ) → Checks f before a words → a ≡ b → r ≡ countOf b → Answers f before r words
 answers f before words a b r h e p = (p ∙ ap countOf (sym e ∙ ap (λ (o : Outcome). o .answer) h), ap (λ (o : Outcome). o .words) h)
@@ -25,3 +27,8 @@ says f place before units′ a b r h e p = (p ∙ ap effectOf (sym e ∙ ap (λ 
 
 pub filled-refused : (a : Answered) (x : Refusal) (n : ℕ) → a ≡ answered.Refused x → n ≡ packed x → n ≡ filledOf a
 filled-refused a x n e p = rw e p
+
+pub settles : (f : List ℕ) (number : ℕ) (before live units′ live′ : List ℕ) (a b : Lived) (r : ℕ)
+    → lives.Lives f number before live a units′ live′ → a ≡ b → r ≡ passesOf b → Settles f number before live r units′ live′
+settles f number before live units′ live′ a b r h e p =
+    (p ∙ ap passesOf (sym e ∙ ap (λ (o : lives.Outcome). o .answer) h), ap (λ (o : lives.Outcome). o .units) h, ap (λ (o : lives.Outcome). o .live) h)

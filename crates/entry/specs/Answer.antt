@@ -9,6 +9,9 @@ use Rattle.records.specs.declared.Refusal.{Refusal}
 use Rattle.records.specs.declared.Checked.{Checked}
 use Rattle.records.specs.declared.Checked.the-variants as checked
 use Rattle.units.specs.Ask.{Query, Asked, asked, Told, told}
+use Rattle.liveness.specs.Lives as lives
+use Rattle.liveness.specs.declared.Lived.{Lived}
+use Rattle.liveness.specs.declared.Lived.the-variants as lived
 use Rattle.units.specs.declared.Answered.{Answered}
 use Rattle.units.specs.declared.Answered.the-variants as answered
 use Rattle.units.specs.declared.Effect.{Effect}
@@ -31,6 +34,10 @@ effectOf effects.Yes = 1
 effectOf effects.No = 0
 effectOf (effects.Refused r) = packed r
 
+abbrev pub passesOf : Lived → ℕ
+passesOf (lived.Passes n) = n % 4294967296
+passesOf (lived.Refused r) = packed r
+
 -- The number and the buffers afterwards are those of the operation's one outcome.
 abbrev pub Answers : List ℕ → List ℕ → ℕ → List ℕ → Type 0
 Answers f before r words = (r ≡ countOf (outcome one f before .answer)) × (words ≡ outcome one f before .words)
@@ -41,3 +48,7 @@ Fills q width f place before row r units′ row′ =
 
 abbrev pub Says : List ℕ → ℕ → List ℕ → ℕ → List ℕ → Type 0
 Says f place before r units′ = (r ≡ effectOf (told one f place before .answer)) × (units′ ≡ told one f place before .units)
+
+abbrev pub Settles : List ℕ → ℕ → List ℕ → List ℕ → ℕ → List ℕ → List ℕ → Type 0
+Settles f number before live r units′ live′ =
+    (r ≡ passesOf (lives.lived one f number before live .answer)) × (units′ ≡ lives.lived one f number before live .units) × (live′ ≡ lives.lived one f number before live .live)

@@ -3,7 +3,8 @@
 // its value.
 ghost use mathlib.Core.Path.{_≡_};
 ghost use Rattle.units.specs.Ask.{readRow, writeRow, storageReadRow, storageWriteRow};
-ghost use Rattle.entry.specs.Answer.{packed, filledOf, Answers, Fills, Says};
+ghost use Rattle.entry.specs.Answer.{packed, filledOf, Answers, Fills, Says, Settles};
+use liveness::Lived;
 use records::Checked;
 use records::Refusal;
 use units::Answered;
@@ -87,5 +88,16 @@ pub extern "C" fn effect_at(file: &[u8], place: usize, units: &mut [u32]) -> u64
         Effect::Yes => 1,
         Effect::No => 0,
         Effect::Refused(r) => pack(r),
+    }
+}
+
+// The passes that the live sets of a function took.
+#[no_mangle]
+pub extern "C" fn live_of(file: &[u8], number: usize, units: &mut [u32], live: &mut [u64]) -> u64
+    ensures { λ r. ⌜ Settles (now (file .entry)) number (now (units .entry)) (now (live .entry)) r (now (units .exit)) (now (live .exit)) ⌝ }
+{
+    match liveness::live(file, number, units, live) {
+        Lived::Passes(n) => n as u64 % 4294967296,
+        Lived::Refused(r) => pack(r),
     }
 }

@@ -3,3 +3,11 @@ pub mod StepLaws
 pub mod GraphLaws
 pub mod CopyLaws
 pub mod NumberLaws
+pub mod Firsts
+pub mod Walks
+pub mod Closes
+pub mod Anys
+pub mod Buffers
+pub mod Meeting
+pub mod Closing
+pub mod Declared

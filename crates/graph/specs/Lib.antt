@@ -1,3 +1,7 @@
 pub mod Graph
 pub mod Paths
 pub mod Graphs
+pub mod Members
+pub mod Meeting
+pub mod Closing
+pub mod Gathered

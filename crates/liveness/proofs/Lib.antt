@@ -9,3 +9,11 @@ pub mod Rows
 pub mod UseLaws
 pub mod Blocks
 pub mod Passing
+pub mod Onward
+pub mod Gathering
+pub mod Counting
+pub mod Taking
+pub mod Finding
+pub mod Surveying
+pub mod Solving
+pub mod Answering

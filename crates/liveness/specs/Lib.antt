@@ -5,3 +5,4 @@ pub mod Settle
 pub mod Passes
 pub mod Survey
 pub mod Lives
+pub mod Walks

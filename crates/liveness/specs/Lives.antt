@@ -1,15 +1,15 @@
 -- Document 01, "What moves" (live sets of one function) and "Refusal numbers" (buffers): the public operation live as one outcome, the answer and the
 -- lent words for every input.
 use mathlib.Core.Path.{_≡_}
-use mathlib.Core.List.{List, [], _∷_, _++_}
-use Prim.Native.Nat.{ℕ, zero, suc, _+_, _*_}
+use mathlib.Core.List.{List, [], _++_}
+use Prim.Native.Nat.{ℕ, zero, suc, _+_}
 use lib.Dec.{ltb}
 use lib.ListN.{length, getD, drop}
 use Rattle.records.specs.Pick.{pick, _or_}
 use Rattle.records.specs.Edition.{Edition, one}
 use Rattle.records.specs.Check.{Answer, units, refusal, check}
 use Rattle.records.specs.Outcome.{laid}
-use Rattle.records.specs.Program.{Function, program}
+use Rattle.records.specs.Program.{program}
 use Rattle.records.specs.declared.Refusal.the-variants.{Short, Absent}
 use Rattle.units.specs.Uses.{Lookup, defined, missing, lookup}
 use Rattle.units.specs.Rows.{unitRow}
@@ -54,6 +54,10 @@ unfoldable pub lived : Edition → List ℕ → ℕ → List ℕ → List ℕ �
 lived ed f number before live =
     pick (ltb (length before) (ed .units) or ltb (length live) (needed ed)) (record { answer = Refused Short; units = before; live = live })
     (livedOf ed f number before live (check ed f))
+
+-- The same of buffers of just the needed words.
+abbrev pub LivesIn : List ℕ → ℕ → Lived → List ℕ → List ℕ → Type 0
+LivesIn f number r units′ live′ = record { answer = r; units = units′; live = live′ } ≡ livedOf one f number [] [] (check one f)
 
 -- The contract of live.
 abbrev pub Lives : List ℕ → ℕ → List ℕ → List ℕ → Lived → List ℕ → List ℕ → Type 0
