@@ -11,9 +11,11 @@ use Rattle.units.specs.Ask.{Query, Asked, Asks, Told, Tells}
 use Rattle.units.specs.declared.Answered.{Answered}
 use Rattle.units.specs.declared.Answered.the-variants as answered
 use Rattle.units.specs.declared.Effect.{Effect}
+use Rattle.graph.specs.Graphs as graphs
+use Rattle.graph.specs.declared.Graphed.{Graphed}
 use Rattle.liveness.specs.Lives as lives
 use Rattle.liveness.specs.declared.Lived.{Lived}
-use Rattle.entry.specs.Answer.{packed, countOf, filledOf, effectOf, passesOf, Answers, Fills, Says, Settles}
+use Rattle.entry.specs.Answer.{packed, countOf, filledOf, effectOf, passesOf, summedOf, Answers, Fills, Says, Settles, Draws}
 
 pub answers : (f before words : List ℕ) (a b : Checked) (r : ℕ) → Checks f before a words → a ≡ b → r ≡ countOf b → Answers f before r words
 answers f before words a b r h e p = (p ∙ ap countOf (sym e ∙ ap (λ (o : Outcome). o .answer) h), ap (λ (o : Outcome). o .words) h)
@@ -32,3 +34,13 @@ pub settles : (f : List ℕ) (number : ℕ) (before live units′ live′ : List
     → lives.Lives f number before live a units′ live′ → a ≡ b → r ≡ passesOf b → Settles f number before live r units′ live′
 settles f number before live units′ live′ a b r h e p =
     (p ∙ ap passesOf (sym e ∙ ap (λ (o : lives.Outcome). o .answer) h), ap (λ (o : lives.Outcome). o .units) h, ap (λ (o : lives.Outcome). o .live) h)
+
+pub draws : (f before live graph copies units′ live′ graph′ copies′ : List ℕ) (a b : Graphed) (r : ℕ)
+    → graphs.Graphs f before live graph copies a units′ live′ graph′ copies′ → a ≡ b → r ≡ summedOf b → Draws f before live graph copies r units′ live′ graph′ copies′
+draws f before live graph copies units′ live′ graph′ copies′ a b r h e p = (
+  p ∙ ap summedOf (sym e ∙ ap (λ (o : graphs.Outcome). o .answer) h),
+  ap (λ (o : graphs.Outcome). o .units) h,
+  ap (λ (o : graphs.Outcome). o .live) h,
+  ap (λ (o : graphs.Outcome). o .graph) h,
+  ap (λ (o : graphs.Outcome). o .copies) h,
+)

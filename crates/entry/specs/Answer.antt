@@ -9,6 +9,9 @@ use Rattle.records.specs.declared.Refusal.{Refusal}
 use Rattle.records.specs.declared.Checked.{Checked}
 use Rattle.records.specs.declared.Checked.the-variants as checked
 use Rattle.units.specs.Ask.{Query, Asked, asked, Told, told}
+use Rattle.graph.specs.Graphs as graphs
+use Rattle.graph.specs.declared.Graphed.{Graphed}
+use Rattle.graph.specs.declared.Graphed.the-variants as graphed
 use Rattle.liveness.specs.Lives as lives
 use Rattle.liveness.specs.declared.Lived.{Lived}
 use Rattle.liveness.specs.declared.Lived.the-variants as lived
@@ -38,6 +41,10 @@ abbrev pub passesOf : Lived → ℕ
 passesOf (lived.Passes n) = n % 4294967296
 passesOf (lived.Refused r) = packed r
 
+abbrev pub summedOf : Graphed → ℕ
+summedOf (graphed.Passes n) = n % 4294967296
+summedOf (graphed.Refused r) = packed r
+
 -- The number and the buffers afterwards are those of the operation's one outcome.
 abbrev pub Answers : List ℕ → List ℕ → ℕ → List ℕ → Type 0
 Answers f before r words = (r ≡ countOf (outcome one f before .answer)) × (words ≡ outcome one f before .words)
@@ -52,3 +59,9 @@ Says f place before r units′ = (r ≡ effectOf (told one f place before .answe
 abbrev pub Settles : List ℕ → ℕ → List ℕ → List ℕ → ℕ → List ℕ → List ℕ → Type 0
 Settles f number before live r units′ live′ =
     (r ≡ passesOf (lives.lived one f number before live .answer)) × (units′ ≡ lives.lived one f number before live .units) × (live′ ≡ lives.lived one f number before live .live)
+
+abbrev pub Draws : List ℕ → List ℕ → List ℕ → List ℕ → List ℕ → ℕ → List ℕ → List ℕ → List ℕ → List ℕ → Type 0
+Draws f before live graph copies r units′ live′ graph′ copies′ =
+    (r ≡ summedOf (graphs.graphed one f before live graph copies .answer)) × (units′ ≡ graphs.graphed one f before live graph copies .units)
+    × (live′ ≡ graphs.graphed one f before live graph copies .live) × (graph′ ≡ graphs.graphed one f before live graph copies .graph)
+    × (copies′ ≡ graphs.graphed one f before live graph copies .copies)

@@ -3,7 +3,8 @@
 // its value.
 ghost use mathlib.Core.Path.{_≡_};
 ghost use Rattle.units.specs.Ask.{readRow, writeRow, storageReadRow, storageWriteRow};
-ghost use Rattle.entry.specs.Answer.{packed, filledOf, Answers, Fills, Says, Settles};
+ghost use Rattle.entry.specs.Answer.{packed, filledOf, Answers, Fills, Says, Settles, Draws};
+use graph::Graphed;
 use liveness::Lived;
 use records::Checked;
 use records::Refusal;
@@ -99,5 +100,23 @@ pub extern "C" fn live_of(file: &[u8], number: usize, units: &mut [u32], live: &
     match liveness::live(file, number, units, live) {
         Lived::Passes(n) => n as u64 % 4294967296,
         Lived::Refused(r) => pack(r),
+    }
+}
+
+// The passes of all functions, with interference and copies in their rows.
+#[no_mangle]
+pub extern "C" fn graph_of(
+    file: &[u8],
+    units: &mut [u32],
+    live: &mut [u64],
+    graph: &mut [u64],
+    copies: &mut [u64],
+) -> u64
+    ensures { λ r. ⌜ Draws (now (file .entry)) (now (units .entry)) (now (live .entry)) (now (graph .entry)) (now (copies .entry)) r (now (units .exit)) (now (live .exit))
+        (now (graph .exit)) (now (copies .exit)) ⌝ }
+{
+    match graph::graph(file, units, live, graph, copies) {
+        Graphed::Passes(n) => n as u64 % 4294967296,
+        Graphed::Refused(r) => pack(r),
     }
 }

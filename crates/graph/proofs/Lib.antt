@@ -11,3 +11,9 @@ pub mod Buffers
 pub mod Meeting
 pub mod Closing
 pub mod Declared
+pub mod Stepping
+pub mod Solving
+pub mod Blocking
+pub mod Walked
+pub mod Whole
+pub mod Drawing

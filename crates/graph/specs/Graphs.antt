@@ -74,3 +74,8 @@ graphed ed f before live graph copies =
 abbrev pub Graphs : List ℕ → List ℕ → List ℕ → List ℕ → List ℕ → Graphed → List ℕ → List ℕ → List ℕ → List ℕ → Type 0
 Graphs f before live graph copies r units′ live′ graph′ copies′ =
     record { answer = r; units = units′; live = live′; graph = graph′; copies = copies′ } ≡ graphed one f before live graph copies
+
+-- The same of buffers of just the needed words.
+abbrev pub GraphsIn : List ℕ → Graphed → List ℕ → List ℕ → List ℕ → List ℕ → Type 0
+GraphsIn f r units′ live′ graph′ copies′ =
+    record { answer = r; units = units′; live = live′; graph = graph′; copies = copies′ } ≡ graphedBy one f [] [] [] [] (check one f)

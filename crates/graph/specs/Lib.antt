@@ -5,3 +5,4 @@ pub mod Members
 pub mod Meeting
 pub mod Closing
 pub mod Gathered
+pub mod Walking

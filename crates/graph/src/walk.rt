@@ -1,0 +1,439 @@
+// The walk over a program: every step of every block of every function is noted, with what is live after it.
+ghost use mathlib.Core.Path.{_≡_};
+ghost use mathlib.Core.List.{List};
+ghost use Prim.Native.Nat.{ℕ, _+_, _*_, _≤_, _<_};
+ghost use lib.Dec.{eqb, ltb};
+ghost use lib.ListN.{length, getD};
+ghost use Rattle.rows.specs.Row.{orRow, lessRow};
+ghost use Rattle.records.specs.Pick.{pick};
+ghost use Rattle.units.specs.Along.{Sound, Sane};
+ghost use Rattle.liveness.specs.Passes.{blank};
+ghost use Rattle.graph.specs.Meeting.{met, copiesNoted, addressedNoted};
+ghost use Rattle.graph.specs.Walking.{operationAt, StepTaken, BlockTaken, Safe, OneTaken, Ordered, BlocksTaken, Owner, FunctionTaken, Granted, FunctionNext, AllTaken, Counted, Whole};
+use crate::close::close;
+use crate::close::hold;
+use crate::meet::meet;
+use crate::meet::note_addressed;
+use crate::meet::note_copies;
+use crate::meet::unit_rows;
+use liveness::passes::settle;
+use liveness::survey::seek;
+use liveness::survey::survey;
+use units::cursor::Cursor;
+use units::index::index_functions;
+use units::uses::uses_at;
+
+// The words of a row of units.
+const ROW: usize = 8;
+
+// The word where the live-out rows begin.
+const OUT: usize = 1024;
+
+// The operation of an instruction; 255, which is none, for a terminator.
+fn instruction_at(file: &[u8], at: usize) -> u8
+    requires { ⌜ at + 4 ≤ length (now file) ⌝ }
+    ensures { λ r. ⌜ r ≡ operationAt (now (file .entry)) at ⌝ }
+{
+    if file[at] == 5 {
+        return file[at + 1];
+    }
+    255
+}
+
+// The pairs of a copy; another step has none.
+fn note_pairs(copies: &mut [u64], words: &[u32], reads: &[u64], writes: &[u64], op: u8)
+    requires { ⌜ (length (now copies) ≡ 1024) × (length (now words) ≡ 512) × (length (now reads) ≡ 8) × (length (now writes) ≡ 8) ⌝ }
+    ensures { λ _. ⌜ now (copies .exit) ≡ pick (ltb op 2) (copiesNoted (now (copies .entry)) (now (words .entry)) (now (reads .entry)) (now (writes .entry))) (now (copies .entry)) ⌝ }
+{
+    if op < 2 {
+        note_copies(copies, words, reads, writes);
+    }
+}
+
+// The storages whose address an AddressOf takes; another step takes none.
+fn note_address(addressed: &mut [u64], words: &[u32], reads: &[u64], op: u8)
+    requires { ⌜ (length (now addressed) ≡ 4) × (length (now words) ≡ 512) × (length (now reads) ≡ 8) ⌝ }
+    ensures { λ _. ⌜ now (addressed .exit) ≡ pick (eqb op 16) (addressedNoted (now (addressed .entry)) (now (words .entry)) (now (reads .entry))) (now (addressed .entry)) ⌝ }
+{
+    if op == 16 {
+        note_addressed(addressed, words, reads);
+    }
+}
+
+// The live row goes over a step.
+fn move_live(live: &mut [u64], reads: &[u64], writes: &[u64])
+    requires { ⌜ (length (now live) ≡ 8) × (length (now reads) ≡ 8) × (length (now writes) ≡ 8) ⌝ }
+    ensures { λ _. ⌜ now (live .exit) ≡ orRow (lessRow (now (live .entry)) (now (writes .entry))) (now (reads .entry)) ⌝ }
+{
+    rows::less_from(live, 0, writes, 0, ROW);
+    rows::union_from(live, 0, reads, 0, ROW);
+}
+
+// What a step adds to each buffer, by its rows and its operation; then what is live before it.
+fn note_step(
+    words: &[u32],
+    units: &[u64],
+    reads: &[u64],
+    writes: &[u64],
+    op: u8,
+    live: &mut [u64],
+    meets: &mut [u64],
+    copies: &mut [u64],
+    addressed: &mut [u64],
+)
+    requires { ⌜ (length (now words) ≡ 512) × (length (now units) ≡ 2048) × (length (now reads) ≡ 8) × (length (now writes) ≡ 8) × (length (now live) ≡ 8)
+        × (length (now meets) ≡ 2048) × (length (now copies) ≡ 1024) × (length (now addressed) ≡ 4) ⌝ }
+    ensures { λ _. ⌜ (now (meets .exit) ≡ met (now (meets .entry)) (now (units .entry)) (now (words .entry)) (now (live .entry)) (now (reads .entry)) (now (writes .entry)) (ltb op 2))
+        × (now (copies .exit) ≡ pick (ltb op 2) (copiesNoted (now (copies .entry)) (now (words .entry)) (now (reads .entry)) (now (writes .entry))) (now (copies .entry)))
+        × (now (addressed .exit) ≡ pick (eqb op 16) (addressedNoted (now (addressed .entry)) (now (words .entry)) (now (reads .entry))) (now (addressed .entry)))
+        × (now (live .exit) ≡ orRow (lessRow (now (live .entry)) (now (writes .entry))) (now (reads .entry))) ⌝ }
+{
+    meet(meets, units, words, live, reads, writes, op < 2);
+    note_pairs(copies, words, reads, writes, op);
+    note_address(addressed, words, reads, op);
+    move_live(live, reads, writes);
+}
+
+// One step: what it meets, its pairs, its addresses; then what is live before it.
+fn take_step(
+    file: &[u8],
+    numbers: &[u16],
+    table: &[u16],
+    own: Cursor,
+    here: Cursor,
+    words: &[u32],
+    units: &[u64],
+    live: &mut [u64],
+    meets: &mut [u64],
+    copies: &mut [u64],
+    addressed: &mut [u64],
+)
+    requires { ⌜ (length (now file) ≤ 16384) × (2341 ≤ length (now numbers)) × Sane (now table) × Sound own × Sound here × (here .at + 4 ≤ length (now file))
+        × (length (now words) ≡ 512) × (length (now units) ≡ 2048) × (length (now live) ≡ 8)
+        × (length (now meets) ≡ 2048) × (length (now copies) ≡ 1024) × (length (now addressed) ≡ 4) ⌝ }
+    ensures { λ _. ⌜ StepTaken (now (file .entry)) (now (numbers .entry)) (now (table .entry)) own here (now (words .entry)) (now (units .entry))
+        (now (live .entry)) (now (meets .entry)) (now (copies .entry)) (now (addressed .entry))
+        (now (live .exit)) (now (meets .exit)) (now (copies .exit)) (now (addressed .exit)) ⌝ }
+{
+    let mut reads = [0u64; ROW];
+    let mut writes = [0u64; ROW];
+    let op = instruction_at(file, here.at);
+    uses_at(file, numbers, table, own, here, &mut reads, &mut writes);
+    note_step(
+        words,
+        units,
+        &reads,
+        &writes,
+        op,
+        live,
+        meets,
+        copies,
+        addressed,
+    );
+}
+
+// The steps of a block whose places stand from `first` up to `last`, the last first. The live row is that at the block's end at first.
+fn take_block(
+    file: &[u8],
+    numbers: &[u16],
+    table: &[u16],
+    own: Cursor,
+    places: &[u16],
+    counts: &[u16],
+    first: usize,
+    last: usize,
+    words: &[u32],
+    units: &[u64],
+    live: &mut [u64],
+    meets: &mut [u64],
+    copies: &mut [u64],
+    addressed: &mut [u64],
+)
+    requires { ⌜ (length (now file) ≤ 16384) × (2341 ≤ length (now numbers)) × Sane (now table) × Sound own
+        × (last ≤ length (now places)) × (last ≤ length (now counts)) × (first ≤ last) × Safe (now file) (now places) (now counts) first last
+        × (length (now words) ≡ 512) × (length (now units) ≡ 2048) × (length (now live) ≡ 8)
+        × (length (now meets) ≡ 2048) × (length (now copies) ≡ 1024) × (length (now addressed) ≡ 4) ⌝ }
+    ensures { λ _. ⌜ BlockTaken (now (file .entry)) (now (numbers .entry)) (now (table .entry)) own (now (places .entry)) (now (counts .entry)) (now (words .entry)) (now (units .entry)) last first
+        (now (live .entry)) (now (meets .entry)) (now (copies .entry)) (now (addressed .entry))
+        (now (live .exit)) (now (meets .exit)) (now (copies .exit)) (now (addressed .exit)) ⌝ }
+{
+    let mut i = last;
+    while first < i {
+        i -= 1;
+        let at = places[i] as usize;
+        let k = counts[i] as usize;
+        let here = Cursor { at, k };
+        take_step(
+            file,
+            numbers,
+            table,
+            own,
+            here,
+            words,
+            units,
+            live,
+            meets,
+            copies,
+            addressed,
+        );
+    }
+}
+
+// Block number b, from the row of what is live at its end.
+fn take_one(
+    file: &[u8],
+    numbers: &[u16],
+    table: &[u16],
+    own: Cursor,
+    places: &[u16],
+    counts: &[u16],
+    firsts: &[u16],
+    b: usize,
+    words: &[u32],
+    units: &[u64],
+    rows: &[u64],
+    meets: &mut [u64],
+    copies: &mut [u64],
+    addressed: &mut [u64],
+)
+    requires { ⌜ (length (now file) ≤ 16384) × (2341 ≤ length (now numbers)) × Sane (now table) × Sound own
+        × (length (now places) ≡ 4097) × (length (now counts) ≡ 4097) × (length (now firsts) ≡ 129) × (b < 128) × Ordered (now file) (now places) (now counts) (now firsts) b
+        × (length (now words) ≡ 512) × (length (now units) ≡ 2048) × (length (now rows) ≡ 2048)
+        × (length (now meets) ≡ 2048) × (length (now copies) ≡ 1024) × (length (now addressed) ≡ 4) ⌝ }
+    ensures { λ _. ⌜ OneTaken (now (file .entry)) (now (numbers .entry)) (now (table .entry)) own (now (places .entry)) (now (counts .entry)) (now (firsts .entry)) b (now (words .entry)) (now (units .entry)) (now (rows .entry))
+        (now (meets .entry)) (now (copies .entry)) (now (addressed .entry))
+        (now (meets .exit)) (now (copies .exit)) (now (addressed .exit)) ⌝ }
+{
+    let mut live = [0u64; ROW];
+    rows::copy_row(&mut live, 0, rows, OUT + b * ROW, ROW);
+    let first = firsts[b] as usize;
+    let last = firsts[b + 1] as usize;
+    take_block(
+        file,
+        numbers,
+        table,
+        own,
+        places,
+        counts,
+        first,
+        last,
+        words,
+        units,
+        &mut live,
+        meets,
+        copies,
+        addressed,
+    );
+}
+
+// Every block of a function, in file order.
+fn take_blocks(
+    file: &[u8],
+    numbers: &[u16],
+    table: &[u16],
+    own: Cursor,
+    places: &[u16],
+    counts: &[u16],
+    firsts: &[u16],
+    count: usize,
+    words: &[u32],
+    units: &[u64],
+    rows: &[u64],
+    meets: &mut [u64],
+    copies: &mut [u64],
+    addressed: &mut [u64],
+)
+    requires { ⌜ (length (now file) ≤ 16384) × (2341 ≤ length (now numbers)) × Sane (now table) × Sound own
+        × (length (now places) ≡ 4097) × (length (now counts) ≡ 4097) × (length (now firsts) ≡ 129) × (count ≤ 128)
+        × ((b : ℕ) → b < count → Ordered (now file) (now places) (now counts) (now firsts) b)
+        × (length (now words) ≡ 512) × (length (now units) ≡ 2048) × (length (now rows) ≡ 2048)
+        × (length (now meets) ≡ 2048) × (length (now copies) ≡ 1024) × (length (now addressed) ≡ 4) ⌝ }
+    ensures { λ _. ⌜ BlocksTaken (now (file .entry)) (now (numbers .entry)) (now (table .entry)) own (now (places .entry)) (now (counts .entry)) (now (firsts .entry)) count (now (words .entry)) (now (units .entry)) (now (rows .entry)) count
+        (now (meets .entry)) (now (copies .entry)) (now (addressed .entry))
+        (now (meets .exit)) (now (copies .exit)) (now (addressed .exit)) ⌝ }
+{
+    let mut b = 0;
+    while b < count {
+        take_one(
+            file,
+            numbers,
+            table,
+            own,
+            places,
+            counts,
+            firsts,
+            b,
+            words,
+            units,
+            rows,
+            meets,
+            copies,
+            addressed,
+        );
+        b += 1;
+    }
+}
+
+// What is known behind a function's records.
+struct Went {
+    passes: usize,
+    after: Cursor,
+}
+
+// The function whose records begin at `own`: its live sets settle in rows that are 0 at first, and its steps are noted.
+fn take_function(
+    file: &[u8],
+    numbers: &[u16],
+    table: &[u16],
+    own: Cursor,
+    words: &[u32],
+    units: &[u64],
+    rows: &mut [u64],
+    meets: &mut [u64],
+    copies: &mut [u64],
+    addressed: &mut [u64],
+) -> Went
+    requires { ⌜ (length (now file) ≤ 16384) × (2341 ≤ length (now numbers)) × Sane (now table) × Sound own × Owner (now file) (now numbers) (now table) own
+        × (length (now words) ≡ 512) × (length (now units) ≡ 2048) × (now rows ≡ blank 2048)
+        × (length (now meets) ≡ 2048) × (length (now copies) ≡ 1024) × (length (now addressed) ≡ 4) ⌝ }
+    ensures { λ r. ⌜ FunctionTaken (now (file .entry)) (now (numbers .entry)) (now (table .entry)) own (now (words .entry)) (now (units .entry))
+        (now (meets .entry)) (now (copies .entry)) (now (addressed .entry))
+        (now (rows .exit)) (now (meets .exit)) (now (copies .exit)) (now (addressed .exit)) (r .passes) (r .after) ⌝ }
+{
+    let mut gens = [0u64; 1024];
+    let mut kills = [0u64; 1024];
+    let mut targets = [0u16; 5462];
+    let mut starts = [0u16; 129];
+    let mut places = [0u16; 4097];
+    let mut counts = [0u16; 4097];
+    let mut firsts = [0u16; 129];
+    let s = survey(
+        file,
+        numbers,
+        table,
+        own,
+        &mut gens,
+        &mut kills,
+        &mut targets,
+        &mut starts,
+        &mut places,
+        &mut counts,
+        &mut firsts,
+    );
+    let passes = settle(rows, &gens, &kills, &targets, &starts, s.blocks);
+    take_blocks(
+        file,
+        numbers,
+        table,
+        own,
+        &places,
+        &counts,
+        &firsts,
+        s.blocks,
+        words,
+        units,
+        rows,
+        meets,
+        copies,
+        addressed,
+    );
+    let after = s.after;
+    Went { passes, after }
+}
+
+// A function record stands there.
+fn at_function(file: &[u8], at: usize) -> bool
+    ensures { λ r. ⌜ FunctionNext (now (file .entry)) at r ⌝ }
+{
+    if file.len() <= at {
+        return false;
+    }
+    if file.len() - at < 2 {
+        return false;
+    }
+    file[at] == 2
+}
+
+// Every function, in file order; the rows are those of the last. Answers the passes of all together.
+fn take_functions(
+    file: &[u8],
+    numbers: &[u16],
+    table: &[u16],
+    words: &[u32],
+    units: &[u64],
+    rows: &mut [u64],
+    meets: &mut [u64],
+    copies: &mut [u64],
+    addressed: &mut [u64],
+) -> usize
+    requires { ⌜ (length (now file) ≤ 16384) × (2341 ≤ length (now numbers)) × Sane (now table) × (length (now words) ≡ 512) × (length (now units) ≡ 2048)
+        × (now rows ≡ blank 2048) × (now meets ≡ blank 2048) × (now copies ≡ blank 1024) × (now addressed ≡ blank 4)
+        × ((us : List ℕ) × Granted (now file) us (now numbers) (now table) (now words) (now units)) ⌝ }
+    ensures { λ r. ⌜ ((us : List ℕ) → Granted (now (file .entry)) us (now (numbers .entry)) (now (table .entry)) (now (words .entry)) (now (units .entry))
+        → AllTaken (now (file .entry)) us r (now (rows .exit)) (now (meets .exit)) (now (copies .exit)) (now (addressed .exit))) ⌝ }
+{
+    let start = Cursor { at: 0, k: 0 };
+    let mut c = seek(file, start, false);
+    let mut passes = 0;
+    while at_function(file, c.at) {
+        rows::clear(rows, 0, 2048);
+        let own = Cursor {
+            at: c.at + 2,
+            k: c.k,
+        };
+        let went = take_function(
+            file,
+            numbers,
+            table,
+            own,
+            words,
+            units,
+            rows,
+            meets,
+            copies,
+            addressed,
+        );
+        passes += went.passes;
+        let after = went.after;
+        c = after;
+    }
+    passes
+}
+
+// The graph, the copies and the live rows of the last function, of an accepted file whose units are numbered. Answers the passes of all functions.
+pub fn graph_of(
+    file: &[u8],
+    numbers: &[u16],
+    words: &[u32],
+    count: usize,
+    rows: &mut [u64],
+    graph: &mut [u64],
+    copies: &mut [u64],
+) -> usize
+    requires { ⌜ (length (now file) ≤ 16384) × (7 ≤ length (now file)) × (2341 ≤ length (now numbers)) × (length (now words) ≡ 512) × (count ≤ 512)
+        × (now rows ≡ blank 2048) × (now graph ≡ blank 1024) × (now copies ≡ blank 1024)
+        × ((us : List ℕ) × Counted (now file) us (now numbers) (now words) count) ⌝ }
+    ensures { λ r. ⌜ ((us : List ℕ) → Counted (now (file .entry)) us (now (numbers .entry)) (now (words .entry)) count
+        → Whole (now (file .entry)) us r (now (rows .exit)) (now (graph .exit)) (now (copies .exit))) ⌝ }
+{
+    let mut table = [0u16; 512];
+    index_functions(file, &mut table);
+    let mut units = [0u64; 2048];
+    unit_rows(words, count, &mut units);
+    let mut meets = [0u64; 2048];
+    let mut addressed = [0u64; 4];
+    let passes = take_functions(
+        file,
+        numbers,
+        &table,
+        words,
+        &units,
+        rows,
+        &mut meets,
+        copies,
+        &mut addressed,
+    );
+    close(&meets, words, graph);
+    hold(file, &addressed, graph);
+    passes
+}
