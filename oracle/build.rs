@@ -6,7 +6,7 @@ use std::path::{Path, PathBuf};
 use std::process::Command;
 
 /// The functions that the library may have. Each that is there sets `entry_` and its name.
-const FUNCTIONS: [&str; 8] = [
+const FUNCTIONS: [&str; 9] = [
     "check_file",
     "reads_at",
     "writes_at",
@@ -15,6 +15,7 @@ const FUNCTIONS: [&str; 8] = [
     "effect_at",
     "live_of",
     "graph_of",
+    "place_file",
 ];
 
 fn main() {

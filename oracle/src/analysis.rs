@@ -1,14 +1,11 @@
 //! Holds the library to the original: the five queries, live sets and passes, interference and copies, with every lent
 //! word and for each length of the buffers.
 
-mod call;
-
-use self::call::{Call, Function, Lending, Outcome};
+use crate::call::{Call, Function, Lending, Outcome};
 use crate::difference::Difference;
 use crate::entry::Library;
 use crate::generate;
-use crate::original::answers::{Answers, StepAnswer};
-use crate::reader::check;
+use crate::original::answers::{Answers, Judged, StepAnswer};
 
 /// The refusal of a place or a function number that is not there.
 const ABSENT: u32 = 6;
@@ -49,31 +46,35 @@ pub fn compare_generated(library: &Library, files: u64, seed: u64) -> Result<Tot
 }
 
 pub fn compare_file(library: &Library, file: &[u8]) -> Result<Compared, Difference> {
+    let judged = Judged::of(file);
+    compare_judged(library, file, &judged)?;
+    Ok(match judged {
+        Judged::Answered(_) => Compared::Accepted,
+        Judged::Refused(..) => Compared::Refused,
+        Judged::Unanswered(reason) => Compared::Unanswered(reason),
+    })
+}
+
+/// The same for a file that is judged already.
+pub fn compare_judged(library: &Library, file: &[u8], judged: &Judged) -> Result<(), Difference> {
     compare_short(library, file)?;
-    let units = match check(file) {
-        Ok(units) => units,
-        Err((number, value)) => {
-            compare_refused(library, file, number, value)?;
-            return Ok(Compared::Refused);
-        }
-    };
-    match Answers::in_time(file, &units) {
-        Ok(answers) => {
-            compare_steps(library, file, &answers)?;
+    match judged {
+        Judged::Answered(answers) => {
+            compare_steps(library, file, answers)?;
             compare_absent_places(library, file, &answers.steps)?;
-            compare_live(library, file, &answers)?;
-            compare_absent_functions(library, file, &answers)?;
-            compare_graph(library, file, &answers)?;
-            Ok(Compared::Accepted)
+            compare_live(library, file, answers)?;
+            compare_absent_functions(library, file, answers)?;
+            compare_graph(library, file, answers)
         }
-        Err(reason) => Ok(Compared::Unanswered(reason)),
+        Judged::Refused(number, value) => compare_refused(library, file, *number, *value),
+        Judged::Unanswered(_) => Ok(()),
     }
 }
 
 /// A buffer that is too short is refused before the file is looked at, and nothing is touched.
 fn compare_short(library: &Library, file: &[u8]) -> Result<(), Difference> {
-    for function in Function::all(library) {
-        let call = Call { function, argument: 0 };
+    for function in Function::analysis(library) {
+        let call = Call::of(function);
         for buffer in 0..function.lengths().len() {
             call.compare(file, Lending::Short(buffer), &Outcome::too_short())?;
         }
@@ -84,7 +85,7 @@ fn compare_short(library: &Library, file: &[u8]) -> Result<(), Difference> {
 
 /// The fault of the file comes before the number that is asked for.
 fn compare_refused(library: &Library, file: &[u8], number: u32, value: u32) -> Result<(), Difference> {
-    for function in Function::all(library) {
+    for function in Function::analysis(library) {
         let outcome = Outcome::refused(function, number, value);
         for (argument, lending) in [(0, Lending::Exact), (file.len() / 2, Lending::Longer)] {
             Call { function, argument }.compare(file, lending, &outcome)?;
@@ -175,13 +176,8 @@ fn compare_graph(library: &Library, file: &[u8], answers: &Answers) -> Result<()
     let Some(graph) = library.graph else {
         return Ok(());
     };
-    let call = Call {
-        function: Function::Graph(graph),
-        argument: 0,
-    };
-    let last = answers.functions.last().expect("an accepted file has a function");
-    let words = vec![&last.live[..], &answers.graph, &answers.copies];
-    let outcome = Outcome::given(answers.passes(), &answers.units, words);
+    let call = Call::of(Function::Graph(graph));
+    let outcome = Outcome::given(answers.passes(), &answers.units, answers.last_words());
     call.compare(file, Lending::Exact, &outcome)?;
     call.compare(file, Lending::Longer, &outcome)
 }

@@ -13,6 +13,8 @@ pub type Query = fn(&[u8], usize, &mut [u32], &mut [u64]) -> u64;
 pub type Effect = fn(&[u8], usize, &mut [u32]) -> u64;
 /// File, units, live sets, graph and copies: the passes summed over the functions.
 pub type Graph = fn(&[u8], &mut [u32], &mut [u64], &mut [u64], &mut [u64]) -> u64;
+/// File, units, live sets, graph, copies and the result's bytes: passes, slots and storages in one number.
+pub type Placer = fn(&[u8], &mut [u32], &mut [u64], &mut [u64], &mut [u64], &mut [u8]) -> u64;
 
 /// The names of the four queries for sets, in the order of `Library::sets`.
 pub const SET_NAMES: [&str; 4] = ["reads_at", "writes_at", "storage_reads_at", "storage_writes_at"];
@@ -25,10 +27,11 @@ pub struct Library {
     pub effect: Option<Effect>,
     pub live: Option<Query>,
     pub graph: Option<Graph>,
+    pub place: Option<Placer>,
 }
 
 impl Library {
-    /// How many functions there are besides the checker.
+    /// How many functions the analysis has, the checker and the placer left out.
     pub const ANALYSIS_FUNCTIONS: usize = SET_NAMES.len() + 3;
 
     /// What the build linked.
@@ -39,6 +42,7 @@ impl Library {
             effect: effect_at(),
             live: live_of(),
             graph: graph_of(),
+            place: place_file(),
         }
     }
 
@@ -152,6 +156,47 @@ linked!(entry_graph_of, graph_of, Graph, {
             graph_length,
             copies,
             copies_length,
+        )
+    })
+});
+
+linked!(entry_place_file, place_file, Placer, {
+    extern "C" {
+        fn place_file(
+            file: *const u8,
+            length: usize,
+            units: *mut u32,
+            units_length: usize,
+            live: *mut u64,
+            live_length: usize,
+            graph: *mut u64,
+            graph_length: usize,
+            copies: *mut u64,
+            copies_length: usize,
+            result: *mut u8,
+            result_length: usize,
+        ) -> u64;
+    }
+    Some(|file, units, live, graph, copies, result| unsafe {
+        let (file, length) = (file.as_ptr(), file.len());
+        let (units, units_length) = (units.as_mut_ptr(), units.len());
+        let (live, live_length) = (live.as_mut_ptr(), live.len());
+        let (graph, graph_length) = (graph.as_mut_ptr(), graph.len());
+        let (copies, copies_length) = (copies.as_mut_ptr(), copies.len());
+        let (result, result_length) = (result.as_mut_ptr(), result.len());
+        place_file(
+            file,
+            length,
+            units,
+            units_length,
+            live,
+            live_length,
+            graph,
+            graph_length,
+            copies,
+            copies_length,
+            result,
+            result_length,
         )
     })
 });

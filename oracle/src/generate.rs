@@ -1,11 +1,13 @@
 //! Makes program files from a seed: valid ones of every shape, ones at and over the limits, and damaged ones.
 
 pub mod chain;
+pub mod crowded;
 pub mod damage;
 pub mod limits;
 pub mod realistic;
 pub mod sample;
 pub mod valid;
+pub mod worst;
 
 use crate::draft::Draft;
 use crate::random::Random;
@@ -22,6 +24,7 @@ pub enum Shape {
     RealisticLarge,
     AtLimit,
     Chain,
+    Crowded,
     OverLimit,
     Damaged,
     DamagedLarge,
@@ -59,6 +62,23 @@ const ANALYSIS_SHARES: [(Shape, usize); 12] = [
     (Shape::Soup, 2),
 ];
 
+/// The shares of a run for the placer, which needs storages that compete for memory.
+const PLACE_SHARES: [(Shape, usize); 13] = [
+    (Shape::Small, 14),
+    (Shape::Middle, 4),
+    (Shape::Large, 1),
+    (Shape::EveryOperation, 3),
+    (Shape::Realistic, 3),
+    (Shape::RealisticLarge, 1),
+    (Shape::AtLimit, 4),
+    (Shape::Chain, 1),
+    (Shape::Crowded, 60),
+    (Shape::OverLimit, 2),
+    (Shape::Damaged, 5),
+    (Shape::DamagedLarge, 1),
+    (Shape::Soup, 1),
+];
+
 /// The file of this index in the run of this seed.
 pub fn file(seed: u64, index: u64) -> (Shape, Vec<u8>) {
     mixed_file(&SHARES, seed, index)
@@ -67,6 +87,11 @@ pub fn file(seed: u64, index: u64) -> (Shape, Vec<u8>) {
 /// The same for a run that compares the analysis.
 pub fn analysis_file(seed: u64, index: u64) -> (Shape, Vec<u8>) {
     mixed_file(&ANALYSIS_SHARES, seed, index)
+}
+
+/// The same for a run that compares the placer.
+pub fn place_file(seed: u64, index: u64) -> (Shape, Vec<u8>) {
+    mixed_file(&PLACE_SHARES, seed, index)
 }
 
 fn mixed_file(shares: &[(Shape, usize)], seed: u64, index: u64) -> (Shape, Vec<u8>) {
@@ -86,6 +111,7 @@ pub fn file_of(random: &mut Random, shape: Shape) -> Vec<u8> {
         Shape::RealisticLarge => large_realistic(random).bytes(),
         Shape::AtLimit => limits::limit_file(random, 0).bytes(),
         Shape::Chain => chain::any_chain(random).bytes(),
+        Shape::Crowded => crowded::crowded_file(random).bytes(),
         Shape::OverLimit => {
             let over = random.pick(&[1, 1, 1, 2, 5]);
             limits::limit_file(random, over).bytes()

@@ -8,6 +8,13 @@ pub trait Word: Copy + Eq + Into<u64> {
     fn pattern(index: usize, salt: usize) -> Self;
 }
 
+impl Word for u8 {
+    /// A byte has too few values to be told from every answer, so the top bit, which few bytes of a result have, must do.
+    fn pattern(index: usize, salt: usize) -> Self {
+        0x80 | (salt + 37 * index) as u8 & 0x7f
+    }
+}
+
 impl Word for u32 {
     /// The top bits are no shape.
     fn pattern(index: usize, salt: usize) -> Self {
@@ -24,6 +31,7 @@ impl Word for u64 {
 pub struct Lent<W> {
     words: Vec<W>,
     salt: usize,
+    guard: usize,
 }
 
 /// A word that is not as it must be, counted from the first lent one.
@@ -36,23 +44,33 @@ pub struct WrongWord {
 
 impl<W: Word> Lent<W> {
     pub fn new(length: usize, salt: usize) -> Self {
-        let words = (0..length + 2 * GUARD).map(|index| W::pattern(index, salt)).collect();
-        Self { words, salt }
+        Self::guarded(length, salt, GUARD)
+    }
+
+    /// Without guards, so that the words are an allocation of their own and a memory checker sees a step past either end.
+    pub fn bare(length: usize, salt: usize) -> Self {
+        Self::guarded(length, salt, 0)
+    }
+
+    fn guarded(length: usize, salt: usize, guard: usize) -> Self {
+        let mut words = Vec::with_capacity(length + 2 * guard);
+        words.extend((0..length + 2 * guard).map(|index| W::pattern(index, salt)));
+        Self { words, salt, guard }
     }
 
     pub fn lend(&mut self) -> &mut [W] {
-        let end = self.words.len() - GUARD;
-        &mut self.words[GUARD..end]
+        let end = self.words.len() - self.guard;
+        &mut self.words[self.guard..end]
     }
 
     /// The first wrong word. The needed words must be the expected ones, or as found where nothing is expected of them;
     /// all words after them and both guards must be as found.
     pub fn wrong_word(&self, expected: Option<&[W]>) -> Option<WrongWord> {
         self.words.iter().enumerate().find_map(|(index, &given)| {
-            let needed = expected.and_then(|words| words.get(index.wrapping_sub(GUARD)));
+            let needed = expected.and_then(|words| words.get(index.wrapping_sub(self.guard)));
             let right = needed.copied().unwrap_or_else(|| W::pattern(index, self.salt));
             (given != right).then(|| WrongWord {
-                index: index as isize - GUARD as isize,
+                index: index as isize - self.guard as isize,
                 expected: right.into(),
                 given: given.into(),
             })

@@ -1,12 +1,13 @@
 //! The original analysis and allocator, unchanged, on decoded programs.
 
 pub mod answers;
+pub mod ease;
 mod steps;
 pub mod text;
 
 use std::collections::{BTreeMap, BTreeSet};
 
-use crate::program::{AbiEntry, Block, Fixed, Function, Program, Storage, Value};
+use crate::program::{AbiEntry, Block, Fixed, Function, Header, Program, Storage, Value};
 use crate::records::*;
 use original::shared::lir::{self, BlockId, FunctionAbi, PhysicalPlacement, StorageId, StorageOwner, StorageRegion};
 use original::shared::lir_analysis::{self as analysis, ProgramSemantics, StorageUnit};
@@ -137,16 +138,71 @@ impl Original {
         lanes + graph.len() + copies.len()
     }
 
-    /// Nothing where the allocator was not built for the header's sizes.
-    pub fn place(&self, program: &Program) -> Option<Result<Placed, (u32, u32)>> {
-        let header = program.header;
-        let allocator = original::allocator((header.application, header.first, header.work))?;
-        let placed = allocator(&self.program).map_err(|(number, value)| (number, value as u32));
-        Some(placed.map(|(placements, slots)| Placed {
-            placements: program.storages.iter().zip(placements).map(placement_numbers).collect(),
-            slots,
-        }))
+    /// The placement by the allocator of the header's sizes. Where it was built for other sizes only, the one of the
+    /// largest answers for it.
+    pub fn place(&self, program: &Program) -> Result<Placed, (u32, u32)> {
+        match original::allocator(sizes(program.header)) {
+            Some(allocator) => place_by(allocator, &self.program, program),
+            None => self.place_in_largest(program),
+        }
     }
+
+    /// The placement in the largest memories, where fixed storages before all others take the bytes that the header's
+    /// sizes leave out and those below F. A full byte refuses whatever a missing one does, so the answers are the same.
+    pub fn place_in_largest(&self, program: &Program) -> Result<Placed, (u32, u32)> {
+        let allocator = original::allocator(LARGEST).expect("the allocator is built for the largest sizes");
+        let mut filled = self.program.clone();
+        filled.storages.splice(0..0, fillings(program.header));
+        place_by(allocator, &filled, program)
+    }
+
+    /// Analysis and allocation in the original's types, to be timed. Gives the storages placed, or the refusal's number.
+    pub fn allocate(&self, header: Header) -> Option<u64> {
+        let allocator = original::allocator(sizes(header))?;
+        Some(match allocator(&self.program) {
+            Ok((placements, _)) => placements.len() as u64,
+            Err((number, _)) => number.into(),
+        })
+    }
+}
+
+/// The sizes that hold all others.
+const LARGEST: (u16, u16, u16) = (256, 0, 512);
+
+fn sizes(header: Header) -> (u16, u16, u16) {
+    (header.application, header.first, header.work)
+}
+
+/// The last placements are those of the file's storages.
+fn place_by(allocator: original::Place, given: &lir::VirtualProgram, program: &Program) -> Result<Placed, (u32, u32)> {
+    let (placements, slots) = allocator(given).map_err(|(number, value)| (number, value as u32))?;
+    let own = &placements[placements.len() - program.storages.len()..];
+    Ok(Placed {
+        placements: program.storages.iter().zip(own).map(placement_numbers).collect(),
+        slots,
+    })
+}
+
+/// Fixed storages of the program, with ids that no file has, in the bytes of the largest memories that are not free.
+fn fillings(header: Header) -> Vec<lir::Storage<lir::VirtualPlacement>> {
+    let (largest_application, _, largest_work) = LARGEST;
+    let parts = [
+        (3, 0, header.first),
+        (3, header.application, largest_application - header.application),
+        (10, header.work, largest_work - header.work),
+    ];
+    let parts = parts.into_iter().filter(|(_, _, length)| *length > 0);
+    let forms = parts.zip(LARGEST_ID + 1..).map(|((code, a, length), id)| Storage {
+        place: 0,
+        id,
+        owner: None,
+        kind: KIND_BYTES,
+        length,
+        regions: 0,
+        direct: false,
+        fixed: Some(Fixed { code, a, b: 0 }),
+    });
+    forms.map(|form| storage(&form)).collect()
 }
 
 fn number(id: StorageId) -> u16 {
@@ -250,8 +306,8 @@ fn fixed_placement(fixed: Fixed) -> PhysicalPlacement {
 }
 
 /// A fixed storage keeps its numbers, since the original's types do not carry all of them.
-fn placement_numbers((storage, placement): (&Storage, PhysicalPlacement)) -> (u16, Fixed) {
-    let (code, a, b) = match placement {
+fn placement_numbers((storage, placement): (&Storage, &PhysicalPlacement)) -> (u16, Fixed) {
+    let (code, a, b) = match *placement {
         PhysicalPlacement::Accumulator => (1, 0, 0),
         PhysicalPlacement::CarryFlag => (2, 0, 0),
         PhysicalPlacement::ApplicationRam { offset } => (3, offset.into(), 0),

@@ -50,6 +50,11 @@ pub const STORAGE_ROW: usize = 256 / 64;
 pub const LIVE_WORDS: usize = 2 * MOST_BLOCKS * UNIT_ROW;
 /// The needed words of the graph, and of the copies: a row for each id.
 pub const GRAPH_WORDS: usize = 256 * STORAGE_ROW;
+/// The bytes of one storage in the result of placing, and the needed bytes of the result.
+pub const PLACE_BYTES: usize = 8;
+pub const RESULT_BYTES: usize = 256 * PLACE_BYTES;
+/// The first byte of each storage in the result.
+pub const PLACE: u8 = 10;
 
 pub const ROLE_PARAMETER: u8 = 0;
 pub const ROLE_RESULT: u8 = 1;

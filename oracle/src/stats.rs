@@ -1,5 +1,8 @@
 //! Counts what a run of generated files reaches, so that a gap in the shapes can be seen.
 
+#[cfg(original)]
+pub mod placement;
+
 use std::collections::BTreeMap;
 use std::fmt;
 

@@ -3,11 +3,14 @@
 
 mod stand_in;
 
+use std::collections::BTreeSet;
+
 use oracle::analysis::{compare_file, compare_generated, Compared};
 use oracle::entry::Library;
-use oracle::generate::{self, chain, sample};
+use oracle::generate::{self, chain};
 use oracle::original::answers::Answers;
-use oracle::original::text::{explain_analysis, explain_whole};
+use oracle::original::ease::eased_sample;
+use oracle::original::text::explain_whole;
 use oracle::random::Random;
 use oracle::reader::check;
 
@@ -139,15 +142,24 @@ fn chains_take_one_pass_a_block_and_one_more() {
 
 #[test]
 fn samples_are_short_and_varied() {
-    let (mut bytes, mut refused) = (0, 0);
+    let (mut bytes, mut refused, mut placed) = (0, 0, 0);
+    let mut place_refusals = BTreeSet::new();
     for index in 0..320 {
-        let file = sample::sample_file(1, index);
-        let text = explain_analysis(&file);
+        let file = eased_sample(1, index);
+        let text = explain_whole(&file);
         assert!(file.len() <= 4_096, "sample {index}");
-        assert!(explain_whole(&file).starts_with(&text), "sample {index}");
         bytes += file.len() + text.len();
-        refused += usize::from(text.starts_with("refused"));
+        let last = text.lines().last().unwrap_or_default();
+        match last.split(' ').collect::<Vec<&str>>()[..] {
+            ["refused", ..] => refused += 1,
+            ["place", "refused", number, _] => {
+                place_refusals.insert(number.to_string());
+            }
+            ["placed", ..] => placed += 1,
+            _ => panic!("sample {index} ends with {last}"),
+        }
     }
     assert!(bytes < 2_000_000, "{bytes} bytes");
-    assert_eq!(refused, 40);
+    assert_eq!((refused, place_refusals.len()), (40, 5));
+    assert!(placed >= 100, "{placed} placed");
 }

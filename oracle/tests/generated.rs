@@ -44,6 +44,7 @@ fn valid_shapes_are_accepted() {
         Shape::RealisticLarge,
         Shape::AtLimit,
         Shape::Chain,
+        Shape::Crowded,
     ];
     for shape in shapes {
         for seed in 0..200 {

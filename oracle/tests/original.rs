@@ -9,7 +9,6 @@ use oracle::original::text::explain_whole;
 use oracle::original::Original;
 use oracle::program::{decode, Fixed};
 use oracle::reader::check;
-use oracle::triples::TRIPLES;
 
 /// Two byte storages joined by a copy and a bit, A = 32, F = 16, W = 8.
 const WORKED_RUN: [u8; 101] = [
@@ -37,10 +36,7 @@ fn worked_run_is_placed_as_described() {
     let graph = original.graph();
     assert!(graph.neighbours.is_empty());
     assert_eq!(graph.copies.into_iter().collect::<Vec<_>>(), [(0, 1)]);
-    let placed = original
-        .place(&program)
-        .expect("the sizes are built")
-        .expect("everything fits");
+    let placed = original.place(&program).expect("everything fits");
     let at = |code, a| Fixed { code, a, b: 0 };
     assert_eq!(placed.placements, [(0, at(3, 16)), (1, at(3, 16)), (2, at(4, 31))]);
     assert_eq!(placed.slots, 2);
@@ -53,13 +49,21 @@ fn original_gives_the_stored_answers() {
         println!("no stored vectors here: nothing compared");
         return;
     };
+    let (mut placed, mut refused) = (0, 0);
     for path in entries.filter_map(|entry| entry.ok().map(|entry| entry.path())) {
         if path.extension().is_some_and(|extension| extension == "bin") {
             let file = fs::read(&path).expect("a vector can be read");
             let answer = fs::read_to_string(path.with_extension("txt")).expect("a vector has its answer");
             assert_eq!(explain_whole(&file), answer, "{}", path.display());
+            placed += usize::from(answer.contains("\nplaced "));
+            refused += usize::from(answer.contains("\nplace refused "));
         }
     }
+    assert!(
+        placed > 0 && refused > 0,
+        "the vectors have placements and refusals of them"
+    );
+    println!("the stored answers agree, {placed} placed and {refused} refused by placing");
 }
 
 #[test]
@@ -71,16 +75,13 @@ fn generated_files_pass_through_the_original() {
             continue;
         }
         let program = decode(&file);
-        let header = program.header;
-        let built = TRIPLES.contains(&(header.application, header.first, header.work));
         let original = Original::new(&program);
         for function in 0..program.functions.len() {
             assert!(original.live(function).passes >= 1);
         }
         match original.place(&program) {
-            None => assert!(!built),
-            Some(Ok(_)) => placed += 1,
-            Some(Err(_)) => refused += 1,
+            Ok(_) => placed += 1,
+            Err(_) => refused += 1,
         }
     }
     assert!(placed >= 10 && refused >= 10, "placed {placed}, refused {refused}");

@@ -11,11 +11,13 @@ use Rattle.units.specs.Ask.{Query, Asked, Asks, Told, Tells}
 use Rattle.units.specs.declared.Answered.{Answered}
 use Rattle.units.specs.declared.Answered.the-variants as answered
 use Rattle.units.specs.declared.Effect.{Effect}
+use Rattle.allocator.specs.Placing as places
+use Rattle.allocator.specs.declared.Placing.{Placing}
 use Rattle.graph.specs.Graphs as graphs
 use Rattle.graph.specs.declared.Graphed.{Graphed}
 use Rattle.liveness.specs.Lives as lives
 use Rattle.liveness.specs.declared.Lived.{Lived}
-use Rattle.entry.specs.Answer.{packed, countOf, filledOf, effectOf, passesOf, summedOf, Answers, Fills, Says, Settles, Draws}
+use Rattle.entry.specs.Answer.{packed, countOf, filledOf, effectOf, passesOf, summedOf, placedOf, Answers, Fills, Says, Settles, Draws, Puts}
 
 pub answers : (f before words : List ℕ) (a b : Checked) (r : ℕ) → Checks f before a words → a ≡ b → r ≡ countOf b → Answers f before r words
 answers f before words a b r h e p = (p ∙ ap countOf (sym e ∙ ap (λ (o : Outcome). o .answer) h), ap (λ (o : Outcome). o .words) h)
@@ -43,4 +45,16 @@ draws f before live graph copies units′ live′ graph′ copies′ a b r h e p
   ap (λ (o : graphs.Outcome). o .live) h,
   ap (λ (o : graphs.Outcome). o .graph) h,
   ap (λ (o : graphs.Outcome). o .copies) h,
+)
+
+pub puts : (f before live graph copies result units′ live′ graph′ copies′ result′ : List ℕ) (a b : Placing) (r : ℕ)
+    → places.Places f before live graph copies result a units′ live′ graph′ copies′ result′ → a ≡ b → r ≡ placedOf b
+    → Puts f before live graph copies result r units′ live′ graph′ copies′ result′
+puts f before live graph copies result units′ live′ graph′ copies′ result′ a b r h e p = (
+  p ∙ ap placedOf (sym e ∙ ap (λ (o : places.Lent). o .answer) h),
+  ap (λ (o : places.Lent). o .units) h,
+  ap (λ (o : places.Lent). o .live) h,
+  ap (λ (o : places.Lent). o .graph) h,
+  ap (λ (o : places.Lent). o .copies) h,
+  ap (λ (o : places.Lent). o .result) h,
 )

@@ -9,6 +9,9 @@ use Rattle.records.specs.declared.Refusal.{Refusal}
 use Rattle.records.specs.declared.Checked.{Checked}
 use Rattle.records.specs.declared.Checked.the-variants as checked
 use Rattle.units.specs.Ask.{Query, Asked, asked, Told, told}
+use Rattle.allocator.specs.Placing as places
+use Rattle.allocator.specs.declared.Placing.{Placing}
+use Rattle.allocator.specs.declared.Placing.the-variants as placing
 use Rattle.graph.specs.Graphs as graphs
 use Rattle.graph.specs.declared.Graphed.{Graphed}
 use Rattle.graph.specs.declared.Graphed.the-variants as graphed
@@ -45,6 +48,11 @@ abbrev pub summedOf : Graphed → ℕ
 summedOf (graphed.Passes n) = n % 4294967296
 summedOf (graphed.Refused r) = packed r
 
+-- From the low end: 9 bits for the storages placed, 9 for the slots opened and 14 for the passes, each of which an accepted file keeps below its limit.
+abbrev pub placedOf : Placing → ℕ
+placedOf (placing.Done placed slots passes) = (passes % 16384) * 262144 + (slots % 512) * 512 + placed % 512
+placedOf (placing.Refused r) = packed r
+
 -- The number and the buffers afterwards are those of the operation's one outcome.
 abbrev pub Answers : List ℕ → List ℕ → ℕ → List ℕ → Type 0
 Answers f before r words = (r ≡ countOf (outcome one f before .answer)) × (words ≡ outcome one f before .words)
@@ -65,3 +73,9 @@ Draws f before live graph copies r units′ live′ graph′ copies′ =
     (r ≡ summedOf (graphs.graphed one f before live graph copies .answer)) × (units′ ≡ graphs.graphed one f before live graph copies .units)
     × (live′ ≡ graphs.graphed one f before live graph copies .live) × (graph′ ≡ graphs.graphed one f before live graph copies .graph)
     × (copies′ ≡ graphs.graphed one f before live graph copies .copies)
+
+abbrev pub Puts : List ℕ → List ℕ → List ℕ → List ℕ → List ℕ → List ℕ → ℕ → List ℕ → List ℕ → List ℕ → List ℕ → List ℕ → Type 0
+Puts f before live graph copies result r units′ live′ graph′ copies′ result′ =
+    (r ≡ placedOf (places.placed one f before live graph copies result .answer)) × (units′ ≡ places.placed one f before live graph copies result .units)
+    × (live′ ≡ places.placed one f before live graph copies result .live) × (graph′ ≡ places.placed one f before live graph copies result .graph)
+    × (copies′ ≡ places.placed one f before live graph copies result .copies) × (result′ ≡ places.placed one f before live graph copies result .result)

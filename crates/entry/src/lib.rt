@@ -3,7 +3,8 @@
 // its value.
 ghost use mathlib.Core.Path.{_≡_};
 ghost use Rattle.units.specs.Ask.{readRow, writeRow, storageReadRow, storageWriteRow};
-ghost use Rattle.entry.specs.Answer.{packed, filledOf, Answers, Fills, Says, Settles, Draws};
+ghost use Rattle.entry.specs.Answer.{packed, filledOf, Answers, Fills, Says, Settles, Draws, Puts};
+use allocator::Placing;
 use graph::Graphed;
 use liveness::Lived;
 use records::Checked;
@@ -118,5 +119,29 @@ pub extern "C" fn graph_of(
     match graph::graph(file, units, live, graph, copies) {
         Graphed::Passes(n) => n as u64 % 4294967296,
         Graphed::Refused(r) => pack(r),
+    }
+}
+
+// `place`, with a record for each storage in `result`: the passes of all functions times 262144, the slots opened times 512, and the storages
+// placed. Each remainder keeps its count within its own bits, and changes no count that a file can reach.
+#[no_mangle]
+pub extern "C" fn place_file(
+    file: &[u8],
+    units: &mut [u32],
+    live: &mut [u64],
+    graph: &mut [u64],
+    copies: &mut [u64],
+    result: &mut [u8],
+) -> u64
+    ensures { λ r. ⌜ Puts (now (file .entry)) (now (units .entry)) (now (live .entry)) (now (graph .entry)) (now (copies .entry)) (now (result .entry)) r
+        (now (units .exit)) (now (live .exit)) (now (graph .exit)) (now (copies .exit)) (now (result .exit)) ⌝ }
+{
+    match allocator::place(file, units, live, graph, copies, result) {
+        Placing::Done {
+            placed,
+            slots,
+            passes,
+        } => passes as u64 % 16384 * 262144 + slots as u64 % 512 * 512 + placed as u64 % 512,
+        Placing::Refused(r) => pack(r),
     }
 }

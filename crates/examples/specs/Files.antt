@@ -2,13 +2,35 @@
 use Prim.Native.Nat.{ℕ, zero, suc}
 use mathlib.Core.List.{List, [], _∷_, _++_}
 
+-- Application bytes, those of them that are reserved, and work bytes.
+unfoldable pub sizes : ℕ → ℕ → ℕ → List ℕ
+sizes a f w = 0 ∷ a ∷ 0 ∷ f ∷ 0 ∷ w ∷ 0 ∷ []
+
 -- 32 application bytes of which 16 are reserved, 8 work bytes.
 unfoldable pub header : List ℕ
-header = 0 ∷ 32 ∷ 0 ∷ 16 ∷ 0 ∷ 8 ∷ 0 ∷ []
+header = sizes 32 16 8
+
+-- A storage of length 1: id, owner, kind, regions, direct, fixed code with its two numbers. Both bytes of the owner are alike: 0 is function 0, 255 the program.
+unfoldable pub declaring : ℕ → ℕ → ℕ → ℕ → ℕ → ℕ → ℕ → ℕ → List ℕ
+declaring id owner kind regions direct code a b =
+    1 ∷ id ∷ 0 ∷ owner ∷ owner ∷ kind ∷ 1 ∷ 0 ∷ regions ∷ 0 ∷ direct ∷ code ∷ a ∷ 0 ∷ b ∷ 0 ∷ []
 
 -- A storage of function 0, by id and kind, that may go to the regions of a mask.
 unfoldable pub storage : ℕ → ℕ → ℕ → List ℕ
-storage id kind regions = 1 ∷ id ∷ 0 ∷ 0 ∷ 0 ∷ kind ∷ 1 ∷ 0 ∷ regions ∷ 0 ∷ 0 ∷ 0 ∷ 0 ∷ 0 ∷ 0 ∷ 0 ∷ []
+storage id kind regions = declaring id 0 kind regions 0 0 0 0
+
+-- A byte of function 0 that must be direct.
+unfoldable pub directByte : ℕ → ℕ → List ℕ
+directByte id regions = declaring id 0 1 regions 1 0 0 0
+
+-- A storage of function 0, by id and kind, that is fixed at a code with its two numbers.
+unfoldable pub fixed : ℕ → ℕ → ℕ → ℕ → ℕ → List ℕ
+fixed id kind code a b = declaring id 0 kind 0 0 code a b
+
+-- Bits 0 to n - 1 of the program, which may go to application RAM only, in front of what follows.
+unfoldable pub bits : ℕ → List ℕ → List ℕ
+bits zero rest = rest
+bits (suc n) rest = bits n (declaring n 255 0 4 0 0 0 0 ++ rest)
 
 -- Function 0 with one block, of id 0, and a CopyByte in it that wants two operands.
 unfoldable pub copying : List ℕ
@@ -53,9 +75,12 @@ functions (suc n) = 2 ∷ n ∷ functions n
 unfoldable pub crowded : List ℕ
 crowded = header ++ functions 65 ++ (9 ∷ [])
 
--- One function, 0, that has no block.
+-- One function, 0, that has no block, and the end of the file.
+unfoldable pub idle : List ℕ
+idle = 2 ∷ 0 ∷ 9 ∷ []
+
 unfoldable pub noBlocks : List ℕ
-noBlocks = header ++ (2 ∷ 0 ∷ 9 ∷ [])
+noBlocks = header ++ idle
 
 -- The one block, of id 5, of function 0 pushes lane 0 of storage 0 and jumps to the block of an id.
 unfoldable pub jumping : ℕ → List ℕ
@@ -68,3 +93,27 @@ clobbering =
     ++ (2 ∷ 0 ∷ 4 ∷ 0 ∷ 0 ∷ 5 ∷ 15 ∷ 0 ∷ 0 ∷ []) ++ lane 0 1
     ++ (5 ∷ 27 ∷ 0 ∷ 1 ∷ 5 ∷ 14 ∷ 0 ∷ 0 ∷ []) ++ lane 0 0 ++ (7 ∷ 6 ∷ 0 ∷ 0 ∷ [])
     ++ (2 ∷ 1 ∷ 3 ∷ 2 ∷ 3 ∷ 0 ∷ 0 ∷ 0 ∷ 0 ∷ 9 ∷ [])
+
+-- All application bytes are reserved, and storage 7 wants one of them.
+unfoldable pub allReserved : List ℕ
+allReserved = sizes 16 16 0 ++ directByte 7 4 ++ idle
+
+-- One application byte, and n bits of the program that want it.
+unfoldable pub bitsInByte : ℕ → List ℕ
+bitsInByte n = sizes 1 0 0 ++ bits n idle
+
+-- Byte 3 fixed at shadow byte 0, and byte 4 at work byte 0.
+unfoldable pub shadowed : List ℕ
+shadowed = sizes 16 0 8 ++ fixed 3 1 5 0 0 ++ fixed 4 1 10 0 0 ++ idle
+
+-- A storage of a kind, with id 5, fixed at bit 3 of application byte 2.
+unfoldable pub atBit : ℕ → List ℕ
+atBit kind = sizes 16 0 0 ++ fixed 5 kind 4 2 3 ++ idle
+
+-- Byte 9 must be direct and allows work RAM only.
+unfoldable pub workOnly : List ℕ
+workOnly = sizes 16 0 4 ++ directByte 9 64 ++ idle
+
+-- There are no work bytes, and byte 6 may go to work RAM only.
+unfoldable pub noWork : List ℕ
+noWork = sizes 16 0 0 ++ storage 6 1 64 ++ idle

@@ -27,7 +27,7 @@ use Rattle.liveness.proofs.UseLaws.{flow-at, accepted-listed, outs-among}
 use Rattle.graph.specs.Gathered.{Stop, stopsIn, stopsFrom, stopsOf, Within, Paired, Addressed}
 use Rattle.graph.specs.Walking.{usesAt, Noted, Told, useAt, Fits, Sized, BlockTaken, Safe, OneTaken, Ordered, Begun, stopsUpto, BlocksTaken, Owner, Follows, FunctionTaken}
 use Rattle.graph.proofs.Meeting.{gathered-swap, paired-swap, addressed-swap}
-use Rattle.graph.proofs.Solving.{out-rows, live-of-file}
+use Rattle.liveness.proofs.Solving.{out-rows, live-of-file}
 
 uses-append : (ps qs : List Stop) → usesAt (ps ++ qs) ≡ usesAt ps ++ usesAt qs
 uses-append [] qs = refl
@@ -157,8 +157,8 @@ module _ (f found table : List ℕ) (own : Cursor) (gens kills targets starts pl
 
   pub function-taken : Given gens kills targets starts count → Sound after → Told′ → Solved gens kills targets starts count passes rows
       → BlocksTaken f found table own places counts firsts count words units rows count meets copies addressed meets′ copies′ addressed′
-      → FunctionTaken f found table own words units meets copies addressed rows meets′ copies′ addressed′ passes after
-  function-taken given sound s v h = record { few = omega (arith, v .soon, given .few); sound = sound; noted = noted }
+      → FunctionTaken f found table own words units meets copies addressed rows meets′ copies′ addressed′ passes count after
+  function-taken given sound s v h = record { few = omega (arith, v .soon, given .few); fewer = given .few; held = v .held; sound = sound; noted = noted }
     where
       noted : (us : List ℕ) (fn : Function) (ps : List Stop) → Told f us found table words units fn own → List·Memᴰ fn (program one f .functions)
           → fn .blocks ≡ from f (own .at) .blocks → Noted us ps meets copies addressed

@@ -13,10 +13,12 @@ use Rattle.rows.specs.Row.{memberAt, withAt, row}
 use Rattle.rows.proofs.Rows.{length-row}
 use Rattle.records.specs.Pick.{pick, pick-yes, pick-no, _and_}
 use Rattle.records.specs.Record.{Storage, u8At, u16At, storageIn}
+use Rattle.storages.specs.File.{opensStorage, storagesBy, declared}
+use Rattle.storages.proofs.Declared.{opens-inside}
 use Rattle.units.specs.Sets.{each}
 use Rattle.graph.specs.Members.{members}
 use Rattle.graph.specs.Meeting.{storagesAt}
-use Rattle.graph.specs.Closing.{linked, apart, apartAll, meetPairs, closed, opensStorage, storagesBy, declared, ownPair, ownPairs}
+use Rattle.graph.specs.Closing.{linked, apart, apartAll, meetPairs, closed, ownPair, ownPairs}
 
 pub linked-append : (ps qs : List (ℕ × ℕ)) (g : List ℕ) → linked (ps ++ qs) g ≡ linked qs (linked ps g)
 unfolding linked
@@ -84,22 +86,6 @@ module _ (meets words start : List ℕ) where
     close-end h = let a : 256 - i ≡ 0 = omega arith in ap (λ (k : ℕ). linked (meetPairs meets words i k) now) (sym a) ∙ c .same
 
 -- ---- the storage records of a file
-
--- What a tail that opens a storage has: its 16 bytes.
-pub opens-long : (t : List ℕ) → opensStorage t ≡ true → 16 ≤ length t
-unfolding opensStorage pick
-opens-long t e = go (leb 16 (length t)) refl e
-  where
-    go : (b : Bool) → leb 16 (length t) ≡ b → (b and eqb (u8At t 0) 1) ≡ true → 16 ≤ length t
-    go true q e = leb-true 16 (length t) q
-    go false q e = absurd (let z : _≡_ {A = ℕ} 0 1 = cc in omega arith)
-
--- What a test on the tail at a place says of the file there, and that the record is inside.
-pub opened : (file t : List ℕ) (at : ℕ) (r b : Bool) → t ≡ drop at file → r ≡ opensStorage t → r ≡ b → opensStorage (drop at file) ≡ b
-opened file t at r b e o q = ap opensStorage (sym e) ∙ sym o ∙ q
-
-pub opens-inside : (file : List ℕ) (at : ℕ) → at ≤ length file → opensStorage (drop at file) ≡ true → at + 16 ≤ length file
-opens-inside file at h o = omega (arith, opens-long (drop at file) o, length-drop at file)
 
 pub record Storing (f : Storage → List (ℕ × ℕ)) (file start now : List ℕ) (at : ℕ) : Type 0 where
   pub len : length now ≡ 1024

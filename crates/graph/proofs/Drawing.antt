@@ -18,6 +18,7 @@ use Rattle.records.specs.declared.Refusal.{Refusal}
 use Rattle.records.specs.declared.Refusal.the-variants.{Short}
 use Rattle.records.specs.declared.Checked.{Checked}
 use Rattle.records.specs.declared.Checked.the-variants as checked
+use Rattle.records.proofs.Outcomes.{laid-rest}
 use Rattle.records.proofs.Accepted.{accepted}
 use Rattle.liveness.specs.Passes.{blank}
 use Rattle.graph.specs.Graph.{interferes, copied, passes}
@@ -25,7 +26,7 @@ use Rattle.graph.specs.Graphs.{Outcome, graphedBy, graphed, lastLive, re
 use Rattle.graph.specs.Walking.{Counted, Whole}
 use Rattle.graph.specs.declared.Graphed.{Graphed}
 use Rattle.graph.specs.declared.Graphed.the-variants.{Passes, Refused}
-use Rattle.graph.proofs.Declared.{header-there}
+use Rattle.storages.proofs.Declared.{header-there}
 
 pub blank-of : (n : ℕ) (l l′ : List ℕ) → length l ≡ n → l′ ≡ W.put l 0 (replicate n 0) → l′ ≡ blank n
 unfolding blank
@@ -71,11 +72,6 @@ module _ (f : List ℕ) (r : Checked) (words found : List ℕ) (h : R.Numbers f 
 none : (a b c d : Bool) → a ≡ false → b ≡ false → c ≡ false → d ≡ false → (a or (b or (c or d))) ≡ false
 unfolding pick
 none a b c d p q r s = rw (p, q, r) s
-
-laid-rest : (n : ℕ) (us before : List ℕ) → R.laid n us [] ++ drop n before ≡ R.laid n us before
-unfolding R.laid
-laid-rest n us before =
-    ap (λ v. (us ++ replicate (n - length us) 0 ++ v) ++ drop n before) (drop-of-length-le {A = ℕ} [] {i = n} (omega arith)) ∙ simp (append-assoc, append-nil)
 
 module _ (f before live graph copies : List ℕ) where
   pub graphs-short-units : length before < 512 → Graphs f before live graph copies (Refused Short) before live graph copies

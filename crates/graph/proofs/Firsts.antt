@@ -1,6 +1,6 @@
 -- The first number of a row at or above another: the rest of its own word, then whole words, then the lowest bit of the first that is not 0. A walk
 -- that goes from each such number to the next sees the row's numbers in order, each once.
-use mathlib.Core.Path.{_≡_, refl, sym, ap, _∙_}
+use mathlib.Core.Path.{_≡_, refl, sym, ap, subst, _∙_}
 use mathlib.Core.Bool.{true, false, false≢true}
 use mathlib.Core.Logic.{⊎-elim}
 use mathlib.Core.List.{List, [], _∷_}
@@ -146,15 +146,18 @@ skips r n (suc d) k h =
     ap (membersFrom r n) a ∙ pick-no (member r n) _ _ (h n (omega arith) (omega arith)) ∙ skips r (suc n) d k (λ i p q. h i (omega arith) (omega arith))
     ∙ ap (λ (x : ℕ). membersFrom r x k) b
 
+pub ahead-past : (r : List ℕ) (from to : ℕ) → from ≤ to → to ≤ 64 * length r → ((k : ℕ) → from ≤ k → k < to → member r k ≡ false) → ahead r from ≡ ahead r to
+unfolding ahead
+ahead-past r from to l h none =
+    let a : 64 * length r - from ≡ (to - from) + (64 * length r - to) = omega arith in
+    let b : from + (to - from) ≡ to = omega arith in
+    ap (membersFrom r from) a
+    ∙ skips r from (to - from) (64 * length r - to) (λ i p q. none i p (omega arith))
+    ∙ ap (λ (x : ℕ). membersFrom r x (64 * length r - to)) b
+
 module _ {r : List ℕ} {from found : ℕ} (f : First r from found) where
   pub first-ahead : ahead r from ≡ ahead r found
-  unfolding ahead
-  first-ahead =
-      let a : 64 * length r - from ≡ (found - from) + (64 * length r - found) = omega (arith, f .low, f .high) in
-      let b : from + (found - from) ≡ found = omega (arith, f .low) in
-      ap (membersFrom r from) a
-      ∙ skips r from (found - from) (64 * length r - found) (λ i p q. f .none i p (omega arith))
-      ∙ ap (λ (x : ℕ). membersFrom r x (64 * length r - found)) b
+  first-ahead = ahead-past r from found (f .low) (f .high) (f .none)
 
   pub first-cons : found < 64 * length r → ahead r found ≡ found ∷ ahead r (found + 1)
   unfolding ahead membersFrom
@@ -166,3 +169,37 @@ module _ {r : List ℕ} {from found : ℕ} (f : First r from found) where
 pub ahead-end : (r : List ℕ) (n : ℕ) → 64 * length r ≤ n → ahead r n ≡ []
 unfolding ahead membersFrom
 ahead-end r n h = let a : 64 * length r - n ≡ 0 = omega arith in ap (membersFrom r n) a
+
+-- ---- a word in hand: what is left of word n from number v on, shifted down
+
+module _ (r : List ℕ) (n v left : ℕ) (low : n * 64 ≤ v) (inside : n < length r) (ws : Words r) (rest : left ≡ getD r n 0 / 2 ^ (v - n * 64)) where
+  bit-left : (i : ℕ) → bit left i ≡ bit (getD r n 0) (v - n * 64 + i)
+  bit-left i = ap (λ (x : ℕ). bit x i) rest ∙ bit-shifted (getD r n 0) (v - n * 64) i
+
+  pub word-room : (t : ℕ) → Lowest left t → v + t < n * 64 + 64
+  word-room t l =
+      ⊎-elim (λ (h : v - n * 64 + t < 64). omega arith)
+      (λ (h : 64 ≤ v - n * 64 + t). absurd (false≢true (sym (bit-past (getD r n 0) (v - n * 64 + t) (ws n) h) ∙ sym (bit-left t) ∙ l .there)))
+      (lt-or-ge (v - n * 64 + t) 64)
+
+  pub word-next : (t : ℕ) → Lowest left t → ahead r v ≡ (v + t) ∷ ahead r (v + t + 1)
+  word-next t l =
+      let g = word-room t l in
+      let a : n ≡ v / 64 = omega arith in
+      let b : v - n * 64 ≡ v % 64 = omega arith in
+      let e : left ≡ getD r (v / 64) 0 / 2 ^ (v % 64) = rest ∙ ap (λ (x : ℕ). getD r n 0 / 2 ^ x) b ∙ ap (λ (x : ℕ). getD r x 0 / 2 ^ (v % 64)) a in
+      let f = first-here r v (omega arith) t ws (subst (λ (x : ℕ). Lowest x t) e l) in
+      first-ahead f ∙ first-cons f (omega arith)
+
+  pub word-rest : (t : ℕ) → left / 2 ^ t / 2 ^ 1 ≡ getD r n 0 / 2 ^ (v + (t + 1) - n * 64)
+  word-rest t =
+      let e : v - n * 64 + t + 1 ≡ v + (t + 1) - n * 64 = omega arith in
+      ap (λ (x : ℕ). x / 2 ^ t / 2 ^ 1) rest ∙ ap (λ (x : ℕ). x / 2 ^ 1) (shr-shr (getD r n 0) (v - n * 64) t) ∙ shr-shr (getD r n 0) (v - n * 64 + t) 1
+      ∙ ap (λ (x : ℕ). getD r n 0 / 2 ^ x) e
+
+  pub word-done : left ≡ 0 → v ≤ n * 64 + 64 → ahead r v ≡ ahead r (n * 64 + 64)
+  unfolding member
+  word-done z h = ahead-past r v (n * 64 + 64) h (omega arith) (λ k a b.
+      let p : k / 64 ≡ n = omega arith in
+      let q : k % 64 ≡ v - n * 64 + (k - v) = omega arith in
+      ap (λ (x : ℕ). bit (getD r x 0) (k % 64)) p ∙ ap (bit (getD r n 0)) q ∙ sym (bit-left (k - v)) ∙ ap (λ (x : ℕ). bit x (k - v)) z ∙ bit-zero (k - v))

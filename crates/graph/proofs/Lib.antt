@@ -10,9 +10,7 @@ pub mod Anys
 pub mod Buffers
 pub mod Meeting
 pub mod Closing
-pub mod Declared
 pub mod Stepping
-pub mod Solving
 pub mod Blocking
 pub mod Walked
 pub mod Whole

@@ -11,7 +11,8 @@ use lib.Dec.{eqb}
 use lib.ListN.{length, getD, drop, length-append, replicate, length-replicate}
 use lib.Seq.{getD-drop}
 use Rattle.rows.specs.Row as W
-use Rattle.rows.proofs.Rows.{put-whole}
+use Rattle.rows.proofs.Rows.{lt-or-ge, row-ext, row-whole, getD-put-in, getD-put-out}
+use Rattle.rows.proofs.Members.{getD-none}
 use Rattle.records.specs.Edition.{one}
 use Rattle.records.specs.Check.{units, check}
 use Rattle.records.specs.Outcome.{laid}
@@ -26,7 +27,7 @@ use Rattle.units.proofs.Standing.{stands-start, stands-on}
 use Rattle.liveness.specs.Flow.{flows}
 use Rattle.liveness.specs.Settle.{liveness}
 use Rattle.liveness.specs.Lives.{liveWords}
-use Rattle.liveness.specs.Passes.{blank}
+use Rattle.liveness.specs.Passes.{blank, Held}
 use Rattle.liveness.specs.Walks.{FunctionHere, Came, Stopped}
 use Rattle.liveness.proofs.Onward.{kind-at, from-past, from-by, from-kind, read-kind}
 use Rattle.graph.specs.Graph.{sum, passes}
@@ -119,9 +120,43 @@ pub blank-length : (l : List ℕ) (n : ℕ) → l ≡ blank n → length l ≡ n
 unfolding blank
 blank-length l n e = ap length e ∙ length-replicate {A = ℕ} n 0
 
-pub blank-again : (l l′ : List ℕ) → length l ≡ 2048 → l′ ≡ W.put l 0 (replicate 2048 0) → l′ ≡ blank 2048
-unfolding blank
-blank-again l l′ n e = e ∙ put-whole l (replicate 2048 0) (n ∙ sym (length-replicate {A = ℕ} 2048 0))
+-- Words are cleared: one that is not among them stays.
+cleared : (d : List ℕ) (at n j : ℕ) → at + n ≤ length d → ((j < at) ⊎ (at + n ≤ j) → getD d j 0 ≡ 0) → getD (W.put d at (replicate n 0)) j 0 ≡ 0
+cleared d at n j h o = go (lt-or-ge j at) (lt-or-ge j (at + n))
+  where
+    size : length {A = ℕ} (replicate n 0) ≡ n
+    size = length-replicate {A = ℕ} n 0
+
+    out : (j < at) ⊎ (at + n ≤ j) → getD (W.put d at (replicate n 0)) j 0 ≡ 0
+    out p = getD-put-out d at (replicate n 0) (rw size h) j (rw size p) ∙ o p
+
+    go : (j < at) ⊎ (at ≤ j) → (j < at + n) ⊎ (at + n ≤ j) → getD (W.put d at (replicate n 0)) j 0 ≡ 0
+    go (inl p) q = out (inl p)
+    go (inr p) (inr q) = out (inr q)
+    go (inr p) (inl q) =
+        let e : at + (j - at) ≡ j = omega arith in
+        ap (λ (x : ℕ). getD (W.put d at (replicate n 0)) x 0) (sym e)
+        ∙ getD-put-in d at (replicate n 0) (rw size h) (j - at) (rw size (omega arith)) ∙ getD-none n (j - at)
+
+-- Rows that hold something for so many blocks only are blank once those are cleared.
+module _ (l l′ l″ : List ℕ) (count : ℕ) (held : Held l count) (few : count ≤ 128) (e : l′ ≡ W.put l 0 (replicate (count * 8) 0))
+    (e′ : l″ ≡ W.put l′ 1024 (replicate (count * 8) 0)) (n′ : length l′ ≡ 2048) (n″ : length l″ ≡ 2048) where
+  first-cleared : (i : ℕ) → (i < 1024) ⊎ (1024 + count * 8 ≤ i) → getD l′ i 0 ≡ 0
+  first-cleared i o = rw e (cleared l 0 (count * 8) i (omega (arith, held .len)) (λ p. past o p))
+    where
+      past : (i < 1024) ⊎ (1024 + count * 8 ≤ i) → (i < 0) ⊎ (0 + count * 8 ≤ i) → getD l i 0 ≡ 0
+      past (inl q) (inl p) = absurd (omega arith)
+      past (inl q) (inr p) = held .past-ins i (omega arith) q
+      past (inr q) p = held .past-outs i q
+
+  pub rows-blank : l″ ≡ blank 2048
+  unfolding blank
+  rows-blank =
+      let z : length {A = ℕ} (replicate 2048 0) ≡ 2048 = length-replicate {A = ℕ} 2048 0 in
+      sym (row-whole l″ 2048 (omega arith))
+      ∙ row-ext l″ (replicate 2048 0) 0 2048 (n″ ∙ sym z)
+      (λ i h. rw e′ (cleared l′ 1024 (count * 8) (0 + i) (omega arith) (first-cleared (0 + i))) ∙ sym (getD-none 2048 (0 + i)))
+      ∙ row-whole (replicate 2048 0) 2048 (omega (arith, z))
 
 module _ (f us found table words units : List ℕ) (g : Granted f us found table words units) where
   pub walked-none : (c : Cursor) (rows meets copies addressed : List ℕ) → Came f false 0 0 (c .at) (c .k) → Stopped f false (c .at)
@@ -142,7 +177,7 @@ module _ (f us found table words units : List ℕ) (g : Granted f us found table
     live = er;
   }
 
-  module _ (c own after : Cursor) (n passes′ : ℕ) (rows meets copies addressed rows′ meets′ copies′ addressed′ : List ℕ) (w : Walked f us c n rows meets copies addressed)
+  module _ (c own after : Cursor) (n passes′ blocks′ : ℕ) (rows meets copies addressed rows′ meets′ copies′ addressed′ : List ℕ) (w : Walked f us c n rows meets copies addressed)
       (h : FunctionHere f (c .at)) (ea : own .at ≡ c .at + 2) (ek : own .k ≡ c .k) where
     abbrev fn : Function
     fn = functionFrom f (u8At (drop (c .at) f) 1) (own .at)
@@ -164,7 +199,7 @@ module _ (f us found table words units : List ℕ) (g : Granted f us found table
     next-room l =
         omega (arith, w .few, functions-few f 16384 0 (omega arith), ap length (w .splits), length-append (w .done) (from f (c .at) .functions))
 
-    pub walked-more : FunctionTaken f found table own words units meets copies addressed rows′ meets′ copies′ addressed′ passes′ after → Walked f us after (n + passes′) rows′ meets′ copies′ addressed′
+    pub walked-more : FunctionTaken f found table own words units meets copies addressed rows′ meets′ copies′ addressed′ passes′ blocks′ after → Walked f us after (n + passes′) rows′ meets′ copies′ addressed′
     walked-more t =
         let told : Told f us found table words units fn own = record { ready = g .ready; stands = own-stands; abis = refl; numbered = g .numbered; rows = g .rows } in
         let q = t .noted us fn (stopsBy f (w .done)) told next-in refl (w .noted) in
@@ -179,7 +214,7 @@ module _ (f us found table words units : List ℕ) (g : Granted f us found table
           live = q .2 ∙ sym (last-more f us (w .done) fn);
         }
 
-    pub next-less : FunctionTaken f found table own words units meets copies addressed rows′ meets′ copies′ addressed′ passes′ after
+    pub next-less : FunctionTaken f found table own words units meets copies addressed rows′ meets′ copies′ addressed′ passes′ blocks′ after
         → length (from f (after .at) .functions) < length (from f (c .at) .functions)
     next-less t =
         let told : Told f us found table words units fn own = record { ready = g .ready; stands = own-stands; abis = refl; numbered = g .numbered; rows = g .rows } in

@@ -3,17 +3,18 @@
 use mathlib.Core.Path.{_≡_, refl, sym, ap, _∙_}
 use mathlib.Core.Bool.{Bool, true, false}
 use mathlib.Core.List.{List, [], _∷_, _++_, map}
-use Prim.Native.Nat.{ℕ, suc, _+_, _-_, _*_, _≤_, _<_, min, max}
+use Prim.Native.Nat.{ℕ, suc, _+_, _-_, _*_, _/_, _^_, _≤_, _<_, min, max}
+use native.Mathlib.Nat.{div-one}
 use native.Mathlib.Omega.{arith}
-use lib.ListN.{length}
+use lib.ListN.{length, getD}
 use lib.Bits.{bitOr}
-use Rattle.rows.specs.Row.{withAt, row, put, orRow, lessRow, less}
+use Rattle.rows.specs.Row.{Words, withAt, row, put, orRow, lessRow, less}
 use Rattle.rows.proofs.Rows.{length-row, length-zip, row-whole, put-whole}
 use Rattle.records.specs.Pick.{pick-yes, pick-no}
 use Rattle.units.specs.Sets.{each}
-use Rattle.graph.specs.Members.{First, ahead, members}
+use Rattle.graph.specs.Members.{Lowest, First, ahead, members}
 use Rattle.graph.specs.Meeting.{storageAt, storagesAt, paired, unitPairs, unitRows, lessRows, poured, wanted, met, pairsTo, copyPairs}
-use Rattle.graph.proofs.Firsts.{first-ahead, first-cons, ahead-end}
+use Rattle.graph.proofs.Firsts.{first-ahead, first-cons, ahead-end, word-room, word-next, word-rest, word-done}
 
 pub record Walking (F : List ℕ → List ℕ → List ℕ) (words r : List ℕ) (size : ℕ) (start now : List ℕ) (at : ℕ) : Type 0 where
   pub len : length now ≡ size
@@ -47,6 +48,65 @@ module _ (F : List ℕ → List ℕ → List ℕ) (words r : List ℕ) (size : �
     pub walk-end : 512 ≤ at → F [] now ≡ now → now ≡ F (storagesAt words (members r)) start
     unfolding storagesAt
     walk-end h e = sym e ∙ ap (λ (ns : List ℕ). F (storagesAt words ns) now) (sym (ahead-end r at (omega arith))) ∙ w .same
+
+-- ---- the same over one word, which is held in hand: the members from its start on and those from its end on make of the buffers the same
+
+pub record Wording (F : List ℕ → List ℕ → List ℕ) (words r : List ℕ) (size n : ℕ) (start now : List ℕ) (v left : ℕ) : Type 0 where
+  pub len : length now ≡ size
+  pub low : n * 64 ≤ v
+  pub high : v ≤ n * 64 + 64
+  pub rest : left ≡ getD r n 0 / 2 ^ (v - n * 64)
+  pub same : F (storagesAt words (ahead r v)) now ≡ F (storagesAt words (ahead r (n * 64))) start
+
+module _ (F : List ℕ → List ℕ → List ℕ) (words r : List ℕ) (size n : ℕ) (start : List ℕ) (inside : n < length r) (ws : Words r) where
+  pub word-start : length start ≡ size → Wording F words r size n start start (n * 64) (getD r n 0)
+  word-start l =
+      let z : n * 64 - n * 64 ≡ 0 = omega arith in
+      record { len = l; low = omega arith; high = omega arith; rest = sym (ap (λ (x : ℕ). getD r n 0 / 2 ^ x) z ∙ div-one (getD r n 0)); same = refl }
+
+  module _ {now : List ℕ} {v left : ℕ} (w : Wording F words r size n start now v left) where
+    pub word-fits : (t : ℕ) → Lowest left t → v + t < n * 64 + 64
+    word-fits t l = word-room r n v left (w .low) inside ws (w .rest) t l
+
+    pub word-on : (t i : ℕ) (next : List ℕ) → Lowest left t → length next ≡ size → i ≡ storageAt words (v + t) → ((is : List ℕ) → F (i ∷ is) now ≡ F is next)
+        → Wording F words r size n start next (v + (t + 1)) (left / 2 ^ t / 2 ^ 1)
+    unfolding storagesAt
+    word-on t i next l z q e =
+        let a : v + (t + 1) ≡ v + t + 1 = omega arith in
+        record {
+          len = z;
+          low = omega (arith, w .low);
+          high = omega (arith, word-fits t l);
+          rest = word-rest r n v left (w .low) inside ws (w .rest) t;
+          same =
+              ap (λ (x : ℕ). F (storagesAt words (ahead r x)) next) a ∙ sym (e (storagesAt words (ahead r (v + t + 1))))
+              ∙ ap (λ (j : ℕ). F (j ∷ storagesAt words (ahead r (v + t + 1))) now) q
+              ∙ ap (λ (ns : List ℕ). F (storagesAt words ns) now) (sym (word-next r n v left (w .low) inside ws (w .rest) t l)) ∙ w .same;
+        }
+
+    pub word-end : left ≡ 0 → F (storagesAt words (ahead r (n * 64))) start ≡ F (storagesAt words (ahead r (n * 64 + 64))) now
+    word-end z = sym (w .same) ∙ ap (λ (ns : List ℕ). F (storagesAt words ns) now) (word-done r n v left (w .low) inside ws (w .rest) z (w .high))
+
+-- Word after word, to the row's end.
+pub record Rowing (F : List ℕ → List ℕ → List ℕ) (words r : List ℕ) (size : ℕ) (start now : List ℕ) (n : ℕ) : Type 0 where
+  pub len : length now ≡ size
+  pub high : n ≤ 8
+  pub same : F (storagesAt words (ahead r (n * 64))) now ≡ F (storagesAt words (members r)) start
+
+module _ (F : List ℕ → List ℕ → List ℕ) (words r : List ℕ) (size : ℕ) (start : List ℕ) where
+  pub row-start : length start ≡ size → Rowing F words r size start start 0
+  row-start l = record { len = l; high = omega arith; same = refl }
+
+  module _ {now : List ℕ} {n : ℕ} (w : Rowing F words r size start now n) where
+    pub row-on : (next : List ℕ) → n < 8 → length next ≡ size → F (storagesAt words (ahead r (n * 64))) now ≡ F (storagesAt words (ahead r (n * 64 + 64))) next
+        → Rowing F words r size start next (n + 1)
+    row-on next h l e =
+        let a : (n + 1) * 64 ≡ n * 64 + 64 = omega arith in
+        record { len = l; high = omega arith; same = ap (λ (x : ℕ). F (storagesAt words (ahead r x)) next) a ∙ sym e ∙ w .same }
+
+    pub row-end : length r ≡ 8 → 8 ≤ n → F [] now ≡ now → now ≡ F (storagesAt words (members r)) start
+    unfolding storagesAt
+    row-end l h e = sym e ∙ ap (λ (ns : List ℕ). F (storagesAt words ns) now) (sym (ahead-end r (n * 64) (omega arith))) ∙ w .same
 
 -- ---- what one member makes of each buffer
 

@@ -23,7 +23,7 @@ use Rattle.graph.specs.Walking.{usesAt, Noted, Granted, AllTaken, Counte
 use Rattle.graph.specs.Meeting.{unitRows}
 use Rattle.graph.specs.Closing.{closed, heldBy}
 use Rattle.graph.proofs.Closing.{graph-is, copies-is}
-use Rattle.graph.proofs.Declared.{declared-is}
+use Rattle.storages.proofs.Declared.{declared-is}
 
 uses-append : (ps qs : List Stop) → usesAt (ps ++ qs) ≡ usesAt ps ++ usesAt qs
 uses-append [] qs = refl

@@ -3,11 +3,11 @@
 use mathlib.Core.Bool.{Bool}
 use mathlib.Core.List.{List, [], _∷_, _++_}
 use Prim.Native.Nat.{ℕ, zero, suc, _*_}
-use lib.Dec.{eqb, ltb, leb}
-use lib.ListN.{length, drop}
+use lib.Dec.{eqb, ltb}
 use Rattle.rows.specs.Row.{memberAt, withAt, row}
 use Rattle.records.specs.Pick.{pick, _and_}
-use Rattle.records.specs.Record.{Storage, u8At, storageIn}
+use Rattle.records.specs.Record.{Storage}
+use Rattle.storages.specs.File.{declared}
 use Rattle.units.specs.Sets.{each}
 use Rattle.graph.specs.Members.{members}
 use Rattle.graph.specs.Meeting.{storagesAt}
@@ -32,17 +32,6 @@ meetPairs meets words i (suc n) = apartAll i (storagesAt words (members (row mee
 
 unfoldable pub closed : List ℕ → List ℕ → List ℕ → List ℕ
 closed meets words graph = linked (meetPairs meets words 0 256) graph
-
--- A storage record stands at the front of a tail; the storages that stand there one after another; those of a file, after its header.
-unfoldable pub opensStorage : List ℕ → Bool
-opensStorage t = leb 16 (length t) and eqb (u8At t 0) 1
-
-unfoldable pub storagesBy : ℕ → List ℕ → List Storage
-storagesBy zero t = []
-storagesBy (suc k) t = pick (opensStorage t) (storageIn t ∷ storagesBy k (drop 16 t)) []
-
-unfoldable pub declared : List ℕ → List Storage
-declared file = storagesBy (length file) (drop 7 file)
 
 -- An addressed storage with one more of its owner. An id past the last is left out; an accepted file has none.
 unfoldable pub ownPair : ℕ → ℕ → Storage → List (ℕ × ℕ)

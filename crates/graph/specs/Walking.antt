@@ -19,6 +19,7 @@ use Rattle.units.specs.declared.cursor.Cursor.{Cursor}
 use Rattle.liveness.specs.Sets.{join}
 use Rattle.liveness.specs.Flow.{Use, useOf, flows}
 use Rattle.liveness.specs.Settle.{before, settledBy, liveness}
+use Rattle.liveness.specs.Passes.{Held}
 use Rattle.liveness.specs.Lives.{liveWords}
 use Rattle.liveness.specs.Walks.{FunctionHere}
 use Rattle.liveness.specs.Survey.{blockAt, BeginAt}
@@ -128,9 +129,16 @@ pub record Owner (f found table : List ℕ) (own : Cursor) : Type 0 where
 abbrev pub Follows : List ℕ → ℕ → Cursor → Type 0
 Follows f at after = StandsAt f after × (from f (after .at) .functions ≡ from f at .functions) × ((FunctionHere f (after .at) → ⊥) → from f (after .at) .functions ≡ [])
 
+-- The lengths of the survey's arrays, which hold anything at first.
+abbrev pub Lent : List ℕ → List ℕ → List ℕ → List ℕ → List ℕ → List ℕ → List ℕ → Type 0
+Lent gens kills targets starts places counts firsts =
+    (length gens ≡ 1024) × (length kills ≡ 1024) × (length targets ≡ 5462) × (length starts ≡ 129) × (length places ≡ 4097) × (length counts ≡ 4097) × (length firsts ≡ 129)
+
 -- One function is noted.
-pub record FunctionTaken (f found table : List ℕ) (own : Cursor) (words units meets copies addressed rows′ meets′ copies′ addressed′ : List ℕ) (passes : ℕ) (after : Cursor) : Type 0 where
+pub record FunctionTaken (f found table : List ℕ) (own : Cursor) (words units meets copies addressed rows′ meets′ copies′ addressed′ : List ℕ) (passes blocks : ℕ) (after : Cursor) : Type 0 where
   pub few : passes ≤ 130
+  pub fewer : blocks ≤ 128
+  pub held : Held rows′ blocks
   pub sound : Sound after
   pub noted : (us : List ℕ) (fn : Function) (ps : List Stop) → Told f us found table words units fn own → List·Memᴰ fn (program one f .functions)
       → fn .blocks ≡ from f (own .at) .blocks → Noted us ps meets copies addressed

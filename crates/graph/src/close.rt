@@ -1,20 +1,22 @@
 // The graph, once every step is noted: each storage with the storages of the units that it meets, and each addressed one with all others of its owner.
 ghost use mathlib.Core.Path.{_≡_};
 ghost use mathlib.Core.List.{[]};
-ghost use Prim.Native.Nat.{_+_, _≤_, _<_};
+ghost use Prim.Native.Nat.{_+_, _*_, _≤_, _<_};
 ghost use lib.Dec.{eqb, ltb};
 ghost use lib.ListN.{length};
 ghost use Rattle.rows.specs.Row.{row, memberAt};
 ghost use Rattle.records.specs.Pick.{pick, _and_};
 ghost use Rattle.records.specs.Record.{storageIn};
+ghost use Rattle.storages.specs.File.{declared};
 ghost use Rattle.units.specs.Sets.{each};
-ghost use Rattle.graph.specs.Members.{members};
+ghost use Rattle.graph.specs.Members.{ahead, members};
 ghost use Rattle.graph.specs.Meeting.{storagesAt};
-ghost use Rattle.graph.specs.Closing.{linked, apart, apartAll, closed, opensStorage, declared, ownPair, ownPairs, heldBy};
+ghost use Rattle.graph.specs.Closing.{linked, apart, apartAll, closed, ownPair, ownPairs, heldBy};
 use crate::meet::storage_of;
-use crate::members::next_member;
+use crate::members::low_bit;
 use records::bytes::tail_of;
 use records::bytes::u16_at;
+use storages::opens_storage;
 
 // The row of units at `base`.
 pub fn row_of(words: &[u64], base: usize) -> &[u64]
@@ -36,15 +38,30 @@ pub fn link(graph: &mut [u64], i: usize, j: usize)
     rows::insert(graph, j * 4, i);
 }
 
+// Storage i with the storages of the units in word n of a row, from the lowest bit up. What is left of the word is held in hand, so that no step waits for
+// a load.
+pub fn close_word(row: &[u64], n: usize, words: &[u32], graph: &mut [u64], i: usize)
+    requires { ⌜ (length (now row) ≡ 8) × (n < 8) × (length (now words) ≡ 512) × (length (now graph) ≡ 1024) × (i < 256) ⌝ }
+    ensures { λ _. ⌜ linked (apartAll i (storagesAt (now (words .entry)) (ahead (now (row .entry)) (n * 64)))) (now (graph .entry))
+        ≡ linked (apartAll i (storagesAt (now (words .entry)) (ahead (now (row .entry)) (n * 64 + 64)))) (now (graph .exit)) ⌝ }
+{
+    let mut v = n * 64;
+    let mut left = row[n];
+    while left != 0 {
+        let t = low_bit(left);
+        link(graph, i, storage_of(words[v + t]));
+        left = left >> t >> 1;
+        v += t + 1;
+    }
+}
+
 // Storage i with the storage of each unit that it meets, which `row` holds.
 pub fn close_row(row: &[u64], words: &[u32], graph: &mut [u64], i: usize)
     requires { ⌜ (length (now row) ≡ 8) × (length (now words) ≡ 512) × (length (now graph) ≡ 1024) × (i < 256) ⌝ }
     ensures { λ _. ⌜ now (graph .exit) ≡ linked (apartAll i (storagesAt (now (words .entry)) (members (now (row .entry))))) (now (graph .entry)) ⌝ }
 {
-    let mut v = next_member(row, 0);
-    while v < 512 {
-        link(graph, i, storage_of(words[v]));
-        v = next_member(row, v + 1);
+    for n in 0..8 {
+        close_word(row, n, words, graph, i);
     }
 }
 
@@ -63,16 +80,6 @@ fn wide(n: u16) -> usize
     ensures { λ r. ⌜ r ≡ n ⌝ }
 {
     n as usize
-}
-
-// Does a storage record stand at the front of a tail?
-pub fn opens_storage(tail: &[u8]) -> bool
-    ensures { λ r. ⌜ r ≡ opensStorage (now (tail .entry)) ⌝ }
-{
-    if tail.len() < 16 {
-        return false;
-    }
-    tail[0] == 1
 }
 
 // Two storages of one owner meet.

@@ -7,9 +7,9 @@ ghost use lib.ListN.{length, getD};
 ghost use Rattle.rows.specs.Row.{orRow, lessRow};
 ghost use Rattle.records.specs.Pick.{pick};
 ghost use Rattle.units.specs.Along.{Sound, Sane};
-ghost use Rattle.liveness.specs.Passes.{blank};
+ghost use Rattle.liveness.specs.Passes.{blank, Held};
 ghost use Rattle.graph.specs.Meeting.{met, copiesNoted, addressedNoted};
-ghost use Rattle.graph.specs.Walking.{operationAt, StepTaken, BlockTaken, Safe, OneTaken, Ordered, BlocksTaken, Owner, FunctionTaken, Granted, FunctionNext, AllTaken, Counted, Whole};
+ghost use Rattle.graph.specs.Walking.{operationAt, StepTaken, BlockTaken, Safe, OneTaken, Ordered, BlocksTaken, Owner, Lent, FunctionTaken, Granted, FunctionNext, AllTaken, Counted, Whole};
 use crate::close::close;
 use crate::close::hold;
 use crate::meet::meet;
@@ -277,10 +277,12 @@ fn take_blocks(
 // What is known behind a function's records.
 struct Went {
     passes: usize,
+    blocks: usize,
     after: Cursor,
 }
 
-// The function whose records begin at `own`: its live sets settle in rows that are 0 at first, and its steps are noted.
+// The function whose records begin at `own`: its live sets settle in rows that are 0 at first, and its steps are noted. The survey's arrays are lent, since
+// clearing them for every function would take longer than the survey.
 fn take_function(
     file: &[u8],
     numbers: &[u16],
@@ -292,43 +294,44 @@ fn take_function(
     meets: &mut [u64],
     copies: &mut [u64],
     addressed: &mut [u64],
+    gens: &mut [u64],
+    kills: &mut [u64],
+    targets: &mut [u16],
+    starts: &mut [u16],
+    places: &mut [u16],
+    counts: &mut [u16],
+    firsts: &mut [u16],
 ) -> Went
     requires { ⌜ (length (now file) ≤ 16384) × (2341 ≤ length (now numbers)) × Sane (now table) × Sound own × Owner (now file) (now numbers) (now table) own
         × (length (now words) ≡ 512) × (length (now units) ≡ 2048) × (now rows ≡ blank 2048)
-        × (length (now meets) ≡ 2048) × (length (now copies) ≡ 1024) × (length (now addressed) ≡ 4) ⌝ }
+        × (length (now meets) ≡ 2048) × (length (now copies) ≡ 1024) × (length (now addressed) ≡ 4)
+        × Lent (now gens) (now kills) (now targets) (now starts) (now places) (now counts) (now firsts) ⌝ }
     ensures { λ r. ⌜ FunctionTaken (now (file .entry)) (now (numbers .entry)) (now (table .entry)) own (now (words .entry)) (now (units .entry))
         (now (meets .entry)) (now (copies .entry)) (now (addressed .entry))
-        (now (rows .exit)) (now (meets .exit)) (now (copies .exit)) (now (addressed .exit)) (r .passes) (r .after) ⌝ }
+        (now (rows .exit)) (now (meets .exit)) (now (copies .exit)) (now (addressed .exit)) (r .passes) (r .blocks) (r .after) ⌝ }
 {
-    let mut gens = [0u64; 1024];
-    let mut kills = [0u64; 1024];
-    let mut targets = [0u16; 5462];
-    let mut starts = [0u16; 129];
-    let mut places = [0u16; 4097];
-    let mut counts = [0u16; 4097];
-    let mut firsts = [0u16; 129];
     let s = survey(
         file,
         numbers,
         table,
         own,
-        &mut gens,
-        &mut kills,
-        &mut targets,
-        &mut starts,
-        &mut places,
-        &mut counts,
-        &mut firsts,
+        gens,
+        kills,
+        targets,
+        starts,
+        places,
+        counts,
+        firsts,
     );
-    let passes = settle(rows, &gens, &kills, &targets, &starts, s.blocks);
+    let passes = settle(rows, gens, kills, targets, starts, s.blocks);
     take_blocks(
         file,
         numbers,
         table,
         own,
-        &places,
-        &counts,
-        &firsts,
+        places,
+        counts,
+        firsts,
         s.blocks,
         words,
         units,
@@ -337,8 +340,13 @@ fn take_function(
         copies,
         addressed,
     );
+    let blocks = s.blocks;
     let after = s.after;
-    Went { passes, after }
+    Went {
+        passes,
+        blocks,
+        after,
+    }
 }
 
 // A function record stands there.
@@ -352,6 +360,15 @@ fn at_function(file: &[u8], at: usize) -> bool
         return false;
     }
     file[at] == 2
+}
+
+// The rows of so many blocks become 0, and with them all: no other row holds anything.
+fn clear_rows(rows: &mut [u64], blocks: usize)
+    requires { ⌜ Held (now rows) blocks × (blocks ≤ 128) ⌝ }
+    ensures { λ _. ⌜ now (rows .exit) ≡ blank 2048 ⌝ }
+{
+    rows::clear(rows, 0, blocks * ROW);
+    rows::clear(rows, OUT, blocks * ROW);
 }
 
 // Every function, in file order; the rows are those of the last. Answers the passes of all together.
@@ -372,11 +389,19 @@ fn take_functions(
     ensures { λ r. ⌜ ((us : List ℕ) → Granted (now (file .entry)) us (now (numbers .entry)) (now (table .entry)) (now (words .entry)) (now (units .entry))
         → AllTaken (now (file .entry)) us r (now (rows .exit)) (now (meets .exit)) (now (copies .exit)) (now (addressed .exit))) ⌝ }
 {
+    let mut gens = [0u64; 1024];
+    let mut kills = [0u64; 1024];
+    let mut targets = [0u16; 5462];
+    let mut starts = [0u16; 129];
+    let mut places = [0u16; 4097];
+    let mut counts = [0u16; 4097];
+    let mut firsts = [0u16; 129];
     let start = Cursor { at: 0, k: 0 };
     let mut c = seek(file, start, false);
     let mut passes = 0;
+    let mut blocks = 0;
     while at_function(file, c.at) {
-        rows::clear(rows, 0, 2048);
+        clear_rows(rows, blocks);
         let own = Cursor {
             at: c.at + 2,
             k: c.k,
@@ -392,8 +417,16 @@ fn take_functions(
             meets,
             copies,
             addressed,
+            &mut gens,
+            &mut kills,
+            &mut targets,
+            &mut starts,
+            &mut places,
+            &mut counts,
+            &mut firsts,
         );
         passes += went.passes;
+        blocks = went.blocks;
         let after = went.after;
         c = after;
     }

@@ -25,6 +25,7 @@ use Rattle.records.specs.declared.Checked.{Checked}
 use Rattle.records.specs.declared.Checked.the-variants as checked
 use Rattle.records.proofs.Front.{read-whole}
 use Rattle.records.proofs.ByKind.{length-none, kind-header, kind-storage, kind-function, kind-abi, kind-block, kind-instruction, kind-operand, kind-terminator, kind-target, kind-end}
+use Rattle.records.proofs.Outcomes.{laid-rest}
 use Rattle.records.proofs.Accepted.{accepted}
 use Rattle.units.specs.Along.{from, functionFrom, StandsAt, Indexed, Ready}
 use Rattle.units.specs.Uses.{Lookup, defined, missing, lookup}
@@ -173,11 +174,6 @@ unfolding pick
 neither a b p q = rw p q
 
 -- Buffers as they are lent ---------------------------------------------------------------------------------------------------------------------
-
-laid-rest : (n : ℕ) (us before : List ℕ) → laid n us [] ++ drop n before ≡ laid n us before
-unfolding laid
-laid-rest n us before =
-    ap (λ v. (us ++ replicate (n - length us) 0 ++ v) ++ drop n before) (drop-of-length-le {A = ℕ} [] {i = n} (omega arith)) ∙ simp (append-assoc, append-nil)
 
 module _ (f : List ℕ) (number : ℕ) (before live : List ℕ) where
   pub lives-short-units : length before < 512 → Lives f number before live (lived′.Refused Short) before live

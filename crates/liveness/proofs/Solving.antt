@@ -193,7 +193,7 @@ module _ (f us : List ℕ) (fn : Function) (gens kills targets starts places cou
             blank-row (k * 8) (getD (sets .ins) k []) (omega arith) (List·getD-eq-default (sets .ins) [] (omega (arith, settled-ins fs, many)))
             (λ i q. v .held .past-ins (k * 8 + i) (omega arith) (omega arith))
 
-    out-rows : (k : ℕ) → k < 128 → row live (1024 + k * 8) 8 ≡ unitRow one us (getD (sets .outs) k [])
+    pub out-rows : (k : ℕ) → k < 128 → row live (1024 + k * 8) 8 ≡ unitRow one us (getD (sets .outs) k [])
     unfolding P.stateOf
     out-rows k l = go (decLt k b)
       where

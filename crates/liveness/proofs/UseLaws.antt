@@ -9,12 +9,11 @@ use native.Mathlib.Omega.{arith}
 use native.Mathlib.Decide.{decLt}
 use lib.Dec.{T, eqb, eqb→eq}
 use lib.ListN.{length, getD, List·getD-eq-default}
-use Rattle.records.specs.Pick.{pick, pick-yes, _and_, has}
+use Rattle.records.specs.Pick.{pick, pick-yes, _and_, has, All}
 use Rattle.records.specs.Edition.{Edition}
 use Rattle.records.specs.Record.{Abi, Operand, wordOf}
 use Rattle.records.specs.Check.{units, check}
 use Rattle.records.specs.Program.{Step, Block, Function, Program, program}
-use Rattle.records.proofs.Scan.{All}
 use Rattle.records.proofs.Contents.{OperandIn, AbiIn, StepIn, BlockIn, FunctionIn}
 use Rattle.records.proofs.Shape.{idsOf}
 use Rattle.records.proofs.Accepted.{accepted}

@@ -6,7 +6,7 @@ pub mod survey;
 ghost use mathlib.Core.Path.{_≡_};
 ghost use mathlib.Core.List.{List, [], List·Memᴰ};
 ghost use Prim.Native.Nat.{ℕ, _≤_};
-ghost use lib.ListN.{length, take, replicate};
+ghost use lib.ListN.{length, take};
 ghost use Rattle.records.specs.Edition.{one};
 ghost use Rattle.records.specs.Check.{units as unitsOf, check, numbers as numbersOf};
 ghost use Rattle.records.specs.Outcome.{laid};
@@ -32,16 +32,6 @@ const NONE: usize = 65535;
 pub enum Lived {
     Passes(usize),
     Refused(Refusal),
-}
-
-fn clear(words: &mut [u32])
-    ensures { λ _. ⌜ now (words .exit) ≡ replicate (length (now (words .entry))) 0 ⌝ }
-{
-    let mut i = 0;
-    while i < words.len() {
-        words[i] = 0;
-        i += 1;
-    }
 }
 
 // The cursor behind the record of a function; its place is NONE where there is no such function.
@@ -106,7 +96,7 @@ fn live_of(
     index_functions(file, &mut table);
     let own = own_of(&table, number);
     if own.at == NONE {
-        clear(units);
+        records::clear(units);
         return Lived::Refused(Refusal::Absent(number));
     }
     Lived::Passes(passes_of(file, numbers, &table, own, live))

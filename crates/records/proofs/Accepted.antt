@@ -9,7 +9,7 @@ use native.Mathlib.Omega.{arith}
 use lib.Dec.{ltb, leb, eqb}
 use lib.ListN.{length, drop, length-append, length-map}
 use borrow.Author.Tests.{ltb-false, eqb-true}
-use Rattle.records.specs.Pick.{pick, has, times}
+use Rattle.records.specs.Pick.{pick, has, times, All}
 use Rattle.records.specs.Edition.{Edition}
 use Rattle.records.specs.declared.Refusal.{Refusal}
 use Rattle.records.specs.declared.Refusal.the-variants.{Form, Limit}
@@ -17,7 +17,7 @@ use Rattle.records.specs.Record.{Storage, Abi, Operand, Rec, header, sto
 use Rattle.records.specs.Step.{State, start, Turn, next, refused, atStart, inStorages, inAbi, atEnd}
 use Rattle.records.specs.Check.{scan, Answer, units, refusal, closed, check, records}
 use Rattle.records.specs.Program.{Function, Program, gather, program}
-use Rattle.records.proofs.Scan.{All, Walk, done, more, walk, Cut, walk-cut}
+use Rattle.records.proofs.Scan.{Walk, done, more, walk, Cut, walk-cut}
 use Rattle.records.proofs.Took.{Took, stepped}
 use Rattle.records.proofs.Range.{Distinct, Sound, start-sound, walk-range}
 use Rattle.records.proofs.Contents.{FunctionIn, gather-in}

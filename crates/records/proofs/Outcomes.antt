@@ -39,7 +39,8 @@ pub cleared : (n : ℕ) → n ≡ 512 → replicate n 0 ≡ laid 512 [] []
 unfolding laid
 cleared n e = rw e
 
-laid-rest : (n : ℕ) (us before : List ℕ) → laid n us [] ++ drop n before ≡ laid n us before
+-- What is laid into the needed words, and past them what stood there.
+pub laid-rest : (n : ℕ) (us before : List ℕ) → laid n us [] ++ drop n before ≡ laid n us before
 unfolding laid
 laid-rest n us before =
     ap (λ v. (us ++ replicate (n - length us) 0 ++ v) ++ drop n before) (drop-of-length-le {A = ℕ} [] {i = n} (omega arith))

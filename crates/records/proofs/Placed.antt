@@ -9,7 +9,7 @@ use native.Mathlib.Omega.{arith}
 use lib.Dec.{eqb}
 use lib.ListN.{length, take, drop}
 use lib.Seq.{length-take-le}
-use Rattle.records.specs.Pick.{pick}
+use Rattle.records.specs.Pick.{pick, All}
 use Rattle.records.specs.Edition.{Edition}
 use Rattle.records.specs.Record.{Rec, header, storage, function, abi, block, instruction, operand, terminator, target, end, Read, whole, read, recordAt}
 use Rattle.records.specs.Step.{State, start, next, atStart, inStorages, inAbi, inBlock, afterBlock, atEnd}
@@ -17,7 +17,7 @@ use Rattle.records.specs.Check.{Answer, units, check, pieces, recordsIn,
 use Rattle.records.specs.Program.{Step, Block, Function, Rest, putStep, put, gather, program}
 use Rattle.records.specs.Place.{Found, step, nowhere, noFunction, within, startsWith, findIn, stepAt}
 use Rattle.records.proofs.Front.{read-whole, read-take}
-use Rattle.records.proofs.Scan.{All, Walk, done, more, walk, pieces-nil, pieces-whole}
+use Rattle.records.proofs.Scan.{Walk, done, more, walk, pieces-nil, pieces-whole}
 use Rattle.records.proofs.Took.{stepped}
 use Rattle.records.proofs.Contents.{rest, rest-whole}
 use Rattle.records.proofs.Stages.{Calm, start-calm, Passed, passed, calm-on, nothing-after}

@@ -9,14 +9,14 @@ use native.Mathlib.Omega.{arith}
 use lib.Dec.{ltb, leb, eqb}
 use lib.ListN.{length, getD, length-append}
 use borrow.Author.Tests.{ltb-true, leb-true, eqb-true, eqb-false, eq-eqb, ne-eqb}
-use Rattle.records.specs.Pick.{pick, pick-yes, pick-no, _and_, _or_, has}
+use Rattle.records.specs.Pick.{pick, pick-yes, pick-no, _and_, _or_, has, All}
 use Rattle.records.specs.Edition.{Edition}
 use Rattle.records.specs.Record.{Storage, Abi, Operand, Rec, header, storage, function, abi, block, instruction, operand, terminator, target, end, storageFits, wordOf, Read, whole, read}
 use Rattle.records.specs.Units.{noted}
 use Rattle.records.specs.Step.{Opened, State, start, Turn, next, withHeader, withStorage, withFunction, withBlock, withOpened, withNumber, withUnit, step}
 use Rattle.records.specs.Check.{records, scan}
 use Rattle.records.proofs.Front.{and-both}
-use Rattle.records.proofs.Scan.{All, Walk, done, more, walk, records-nil, records-whole}
+use Rattle.records.proofs.Scan.{Walk, done, more, walk, records-nil, records-whole}
 use Rattle.records.proofs.Took.{Named, Took, stepped, unnamed, givenTo}
 
 -- Lists of numbers -------------------------------------------------------------------------------------------------------------------------

@@ -10,6 +10,7 @@ use native.Mathlib.Nat.{not-suc-le-zero}
 use native.Mathlib.Omega.{arith}
 use lib.ListN.{length, take, drop, length-append, length-drop, take-append-drop}
 use lib.Seq.{drop-append-le, drop-append-seam, length-take-le}
+use Rattle.records.specs.Pick.{All}
 use Rattle.records.specs.Edition.{Edition}
 use Rattle.records.specs.declared.Refusal.{Refusal}
 use Rattle.records.specs.declared.Refusal.the-variants.{Form}
@@ -185,10 +186,6 @@ joined (p ∷ ps) = p ++ joined ps
 pub record IsPiece (ed : Edition) (p : List ℕ) : Type 0 where
   pub taken : Rec
   pub reads : read ed p ≡ whole (length p) taken
-
-abbrev pub All : {A : Type 0} → (A → Type 0) → List A → Type 0
-All P [] = Unit {0}
-All P (x ∷ xs) = P x × All P xs
 
 -- the pieces are the file, in order, and each is one record: their places (`placesIn 0`) part the file
 pub record Cut (ed : Edition) (t : List ℕ) : Type 0 where

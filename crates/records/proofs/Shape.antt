@@ -12,7 +12,8 @@ use Rattle.records.specs.Edition.{Edition}
 use Rattle.records.specs.Record.{Storage, Abi, Operand, Rec, header, storage, function, abi, block, instruction, operand, terminator, target, end, Read, whole, read}
 use Rattle.records.specs.Step.{State, next, withHeader, withStorage, withFunction, withBlock, withOpened, withNumber, withUnit, atStart, inStorages, inAbi, inBlock, afterBlock, atEnd}
 use Rattle.records.specs.Program.{Step, Block, Function, Rest, empty, blockOf, functionOf, putStep, put}
-use Rattle.records.proofs.Scan.{All, Walk, done, more}
+use Rattle.records.specs.Pick.{All}
+use Rattle.records.proofs.Scan.{Walk, done, more}
 use Rattle.records.proofs.Took.{Named, Took, Stepped, stepped, unnamed, givenTo}
 use Rattle.records.proofs.Range.{Distinct, Sound, kept}
 use Rattle.records.proofs.Contents.{rest, rest-nil, rest-whole}

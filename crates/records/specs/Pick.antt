@@ -38,3 +38,8 @@ has x (y ∷ ys) = eqb x y or has x ys
 unfoldable pub times : ℕ → List ℕ → ℕ
 times x [] = 0
 times x (y ∷ ys) = pick (eqb x y) 1 0 + times x ys
+
+-- What holds of each in a list.
+abbrev pub All : {A : Type 0} → (A → Type 0) → List A → Type 0
+All P [] = Unit {0}
+All P (x ∷ xs) = P x × All P xs

@@ -78,7 +78,8 @@ pub fn value_of(r: Refusal) -> usize
     }
 }
 
-fn clear(words: &mut [u32])
+// Sets all words to 0.
+pub fn clear(words: &mut [u32])
     ensures { λ _. ⌜ now (words .exit) ≡ replicate (length (now (words .entry))) 0 ⌝ }
 {
     let mut i = 0;

@@ -6,8 +6,10 @@ use Prim.Native.Nat.{ℕ, _+_, _/_, _%_, min}
 use native.Mathlib.Numerals.{add-one}
 use lib.ListN.{getD}
 use borrow.Author.Tests.{eq-eqb, ne-eqb}
-use Rattle.report.specs.Text.{Follows, space, newline, unit-word, units-word, refused-word, lane, bit, object, decimal, shapeText, unitLine, unitLines, headText, unitsText, refusalText}
+use Rattle.report.specs.Text.{Follows, space, newline, unit-word, units-word, refused-word, lane, bit, object, decimal, shapeText, unitLine, unitLines, headText, unitsText, refusalText, answerText}
 use Rattle.records.specs.Refusal.{numberOf, valueOf}
+use Rattle.records.specs.declared.Checked.{Checked}
+use Rattle.records.specs.declared.Checked.the-variants.{Refused}
 use Rattle.records.specs.declared.Refusal.{Refusal}
 
 pub joined : {before first second after last : List ℕ} → Follows before first after → Follows after second last → Follows before (first ++ second) last
@@ -48,6 +50,11 @@ pub refusal-parts : {before a b c d last : List ℕ} (r : Refusal) (n v : ℕ)
 unfolding refusalText
 refusal-parts r n v p q end value gap number word =
     joined (joined (joined (joined word (same-text (ap decimal p) number)) gap) (same-text (ap decimal q) value)) end
+
+-- A refusal's line is the whole text for that answer.
+pub refused-text : {last : List ℕ} (checked : Checked) (r : Refusal) (units : List ℕ)
+    → checked ≡ Refused r → Follows [] (refusalText r) last → last ≡ answerText checked units
+refused-text checked r units e line = rw e (line .same)
 
 -- The three parts of the first line, the last one first; no unit's line stands behind it yet.
 pub head-parts : {a b last : List ℕ} (count : ℕ) (units : List ℕ)

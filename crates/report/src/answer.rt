@@ -19,17 +19,17 @@ pub fn put_answer(page: &mut [u8], units: &[u32; 512], checked: Checked) -> usiz
 {
     match checked {
         Checked::Units(count) => put_units(page, units, count),
-        Checked::Refused(refusal) => put_refusal(page, refusal),
+        Checked::Refused(refusal) => put_refusal(page, 0, refusal),
     }
 }
 
 // A refusal is one line: its number, then its value.
-fn put_refusal(page: &mut [u8], refusal: Refusal) -> usize
-    requires { ⌜ 65536 ≤ length (now page) ⌝ }
-    ensures ends { λ r. ⌜ r ≤ 65536 ⌝ }
-    ensures text { λ r. ⌜ take r (now (page .exit)) ≡ refusalText refusal ⌝ }
+pub fn put_refusal(page: &mut [u8], at: usize, refusal: Refusal) -> usize
+    requires { ⌜ at + 50 ≤ length (now page) ⌝ }
+    ensures ends { λ r. ⌜ r ≤ at + 50 ⌝ }
+    ensures text { λ r. ⌜ Follows (take at (now (page .entry))) (refusalText refusal) (take r (now (page .exit))) ⌝ }
 {
-    let word = put(page, 0, b"refused ");
+    let word = put(page, at, b"refused ");
     let number = put_number(page, word, records::number_of(refusal) as u64);
     let gap = put(page, number, b" ");
     let value = put_number(page, gap, records::value_of(refusal) as u64);

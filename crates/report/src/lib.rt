@@ -1,9 +1,11 @@
-// The report: what the analysis says of one program file, as lines of text on standard output.
-// Knows the answers of `records`, `units`, `liveness` and `graph`; gives `report`, which writes them all.
+// The report: what the analysis and the placer say of one program file, as lines of text on standard output.
+// Knows the answers of `records`, `units`, `liveness`, `graph` and `allocator`; gives `report`, which
+// writes them all, and `place`, which writes the placing alone.
 mod answer;
 mod functions;
 mod page;
 mod places;
+mod placing;
 mod steps;
 mod storages;
 mod text;
@@ -11,6 +13,8 @@ mod text;
 use answer::put_answer;
 use functions::put_functions;
 use page::write_out;
+use placing::Setting;
+use placing::put_placing;
 use records::Checked;
 use storages::put_graph;
 ghost use Prim.Native.Nat.{_≤_};
@@ -24,8 +28,20 @@ pub fn report(file: &[u8]) {
     write_with_analysis(&mut page, end, file, &mut units, checked);
 }
 
-// Behind the answer of `check`, which ends at `at`, an accepted file has the lines of its functions
-// and of its graph, and a refused one has nothing.
+// Writes the placing of a file alone, or the one line of its refusal.
+pub fn place(file: &[u8]) {
+    let mut page = io::large_buffer();
+    write_placing(&mut page, file);
+}
+
+fn write_placing(page: &mut [u8; 65536], file: &[u8]) {
+    let mut units = [0u32; 512];
+    let end = put_placing(page, 0, file, &mut units, Setting::Alone);
+    write_out(page, end);
+}
+
+// Behind the answer of `check`, which ends at `at`, an accepted file has the lines of its functions,
+// of its graph and of its placing, and a refused one has nothing.
 fn write_with_analysis(
     page: &mut [u8; 65536],
     at: usize,
@@ -38,7 +54,8 @@ fn write_with_analysis(
     match checked {
         Checked::Units(_) => {
             let functions = put_functions(page, at, file, units);
-            let end = put_graph(page, functions, file, units);
+            let graph = put_graph(page, functions, file, units);
+            let end = put_placing(page, graph, file, units, Setting::InReport);
             write_out(page, end);
         }
         Checked::Refused(_) => write_out(page, at),

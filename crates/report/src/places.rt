@@ -20,7 +20,8 @@ pub fn next_place(file: &[u8], place: usize) -> usize
     place + length
 }
 
-fn wide(b: u8) -> usize {
+// A byte as a number of the machine's width.
+pub fn wide(b: u8) -> usize {
     b as usize
 }
 

@@ -24,7 +24,7 @@ use Rattle.records.specs.declared.Refusal.the-variants.{Short, Absent}
 use Rattle.records.specs.declared.Checked.{Checked}
 use Rattle.records.specs.declared.Checked.the-variants as checked
 use Rattle.records.proofs.Accepted.{accepted}
-use Rattle.records.proofs.Outcomes.{cleared}
+use Rattle.records.proofs.Outcomes.{cleared, laid-rest}
 use Rattle.units.specs.Uses.{reads, writes, effect}
 use Rattle.units.specs.Rows.{unitRow, storageRow}
 use Rattle.units.specs.Along.{from, functionFrom, stepFrom, IsStep, StandsAt, SoundBoth, Locates}
@@ -40,12 +40,6 @@ use Rattle.units.specs.declared.locate.Located.the-variants.{At, Nowhere
 use Rattle.units.specs.declared.ask.Sought.{Sought}
 use Rattle.units.specs.declared.ask.Sought.the-variants as sought
 use Rattle.units.proofs.Storages.{storages-are, reads-within, writes-within}
-
-laid-rest : (n : ℕ) (us before : List ℕ) → laid n us [] ++ drop n before ≡ laid n us before
-unfolding laid
-laid-rest n us before =
-    ap (λ v. (us ++ replicate (n - length us) 0 ++ v) ++ drop n before) (drop-of-length-le {A = ℕ} [] {i = n} (omega arith))
-    ∙ simp (append-assoc, append-nil)
 
 yes-or : (b : Bool) → (true or b) ≡ true
 unfolding pick

@@ -13,7 +13,7 @@ use borrow.Author.Tests.{ltb-true, ltb-false, leb-true, eqb-true, eqb-false, eq-
 use Rattle.rows.specs.Row.{withAt, pack}
 use Rattle.rows.proofs.Pack.{pack-ext, pack-none, pack-with-at}
 use Rattle.rows.proofs.Members.{length-with-at}
-use Rattle.records.specs.Pick.{pick, pick-yes, pick-no, _and_, _or_, has}
+use Rattle.records.specs.Pick.{pick, pick-yes, pick-no, _and_, _or_, has, All}
 use Rattle.records.specs.Edition.{one}
 use Rattle.records.specs.Record.{Abi, Operand, Rec, header, storage, function, abi, block, instruction, operand, terminator, target, end, Read, whole, fault, read, recordAt, u8At, lengthOf, wordOf, headerAt, abiIn, operandIn, instructionAt, terminatorAt}
 use Rattle.records.specs.Units.{numberIn, noUnit}
@@ -21,7 +21,7 @@ use Rattle.records.specs.Check.{units, check, byPiece, piecesBy, pieces, record
 use Rattle.records.specs.Program.{Rest, empty, putStep, put, gather}
 use Rattle.records.proofs.Front.{read-whole, whole-read, and-both}
 use Rattle.records.proofs.ByKind.{length-one, length-none, kind-header, kind-storage, kind-function, kind-abi, kind-block, kind-instruction, kind-operand, kind-terminator, kind-target, kind-end}
-use Rattle.records.proofs.Scan.{All, tail-some}
+use Rattle.records.proofs.Scan.{tail-some}
 use Rattle.records.proofs.Contents.{OperandIn, AbiIn, rest, rest-whole}
 use Rattle.records.proofs.Numbers.{number-low, number-at, at-has}
 use Rattle.records.proofs.Range.{Distinct}

@@ -1,6 +1,6 @@
 -- The table of functions, as the walk over the records makes it. What the program's functions say of a number is what the table says, else what the
 -- functions from the walk's place on say: a function record is the first among those, and its entry is the place behind it.
-use mathlib.Core.Path.{_≡_, refl, sym, ap, _∙_}
+use mathlib.Core.Path.{_≡_, refl, sym, ap, subst, _∙_}
 use mathlib.Core.Bool.{Bool, true, false}
 use mathlib.Core.List.{List, [], _∷_}
 use Prim.Native.Nat.{ℕ, zero, suc, _+_, _-_, _*_, _≤_, _<_}
@@ -352,6 +352,26 @@ module _ (f table : List ℕ) (at k len : ℕ) (g : Indexing f table at k len) (
           here = q;
           so-far = step-far;
         })
+
+    -- the same, whichever way the code goes over the record
+    pub indexing-by : (table′ : List ℕ) (b at′ k′ len′ : ℕ) → table′ ≡ enteredIn table (getD f at 0) (getD f (at + 1) 0) (at + 2) k → b ≡ broughtBy (getD f at 0)
+        → at′ ≡ at + len → k′ ≡ k + b → len′ ≡ onwardIn (drop at′ f) → Indexing f table′ at′ k′ len′
+    indexing-by table′ b at′ k′ len′ e p ea ek q =
+        subst (λ (x : ℕ). Indexing f table′ x k′ len′) (sym ea)
+        (subst (λ (x : ℕ). Indexing f table′ (at + len) x len′) (sym ek) (indexing-on table′ b len′ e p (q ∙ ap (λ (x : ℕ). onwardIn (drop x f)) ea)))
+
+  -- an operand has seven bytes, brings one number and leaves the table
+  module _ (is-operand : getD f at 0 ≡ 6) where
+    pub operand-long : len ≡ 7
+    operand-long = onward-here .long ∙ ap (lengthOf one) (first-byte f at ∙ is-operand) ∙ length-one 6
+
+    pub operand-brings : 1 ≡ broughtBy (getD f at 0)
+    unfolding pick
+    operand-brings = sym (ap broughtBy is-operand)
+
+    pub operand-table : (n m : ℕ) → table ≡ enteredIn table (getD f at 0) n m k
+    unfolding enteredIn
+    operand-table n m = sym (pick-no _ _ _ (ne-eqb (getD f at 0) 2 (λ q. omega arith)))
 
 -- where the walk stops, nothing is to come
 pub indexing-end : (f table : List ℕ) (at k len : ℕ) → Indexing f table at k len → len ≡ 0 → Sane table × ((us : List ℕ) → check one f ≡ units us → Indexed f table)

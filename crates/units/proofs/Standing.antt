@@ -10,7 +10,7 @@ use native.Mathlib.Nat.{zero-add}
 use lib.Dec.{eqb}
 use lib.ListN.{length, take, drop, length-append}
 use lib.Seq.{take-append-seam, drop-append-seam, drop-at, take-nil, length-take-le}
-use Rattle.records.specs.Pick.{pick, has}
+use Rattle.records.specs.Pick.{pick, has, All}
 use Rattle.records.specs.Edition.{Edition, one}
 use Rattle.records.specs.Record.{Operand, Rec, header, storage, function, abi, block, instruction, operand, terminator, target, end, whole, read, recordAt, u8At, lengthOf, wordOf, headerAt, instructionAt, terminatorAt}
 use Rattle.records.specs.Units.{noted, noUnit}
@@ -19,7 +19,7 @@ use Rattle.records.specs.Program.{Rest, gather}
 use Rattle.records.specs.Check.{units, check, pieces, recordsIn, records, numbers}
 use Rattle.records.proofs.Front.{read-whole, read-append, read-take}
 use Rattle.records.proofs.ByKind.{length-one, length-none, kind-header, kind-storage, kind-function, kind-abi, kind-block, kind-instruction, kind-operand, kind-terminator, kind-target, kind-end}
-use Rattle.records.proofs.Scan.{joined, IsPiece, All, Cut, Walk, done, more, walk, pieces-nil, pieces-whole, records-nil, records-whole, piece-place, joined-append}
+use Rattle.records.proofs.Scan.{joined, IsPiece, Cut, Walk, done, more, walk, pieces-nil, pieces-whole, records-nil, records-whole, piece-place, joined-append}
 use Rattle.records.proofs.Took.{Named, stepped, unnamed, givenTo, need-next, bar-next, next-is, unit-took}
 use Rattle.records.proofs.Numbers.{number-stays}
 use Rattle.records.proofs.Range.{Distinct, InRange, kept, walk-range}

@@ -14,7 +14,7 @@ use Rattle.rows.specs.Row.{member, memberAt, withAt, put, pack}
 use Rattle.rows.proofs.Rows.{put-whole}
 use Rattle.rows.proofs.Members.{member-at-zero}
 use Rattle.rows.proofs.Pack.{length-pack, member-pack, pack-ext, pack-none, pack-with-at}
-use Rattle.records.specs.Pick.{pick, _and_, _or_, has}
+use Rattle.records.specs.Pick.{pick, _and_, _or_, has, All}
 use Rattle.records.specs.Edition.{one}
 use Rattle.records.specs.Record.{Abi, Operand, wordOf}
 use Rattle.records.specs.Units.{numberIn}
@@ -25,7 +25,6 @@ use Rattle.records.specs.Place.{step, stepAt}
 use Rattle.records.proofs.Lists.{or-split}
 use Rattle.records.proofs.Front.{and-both}
 use Rattle.records.proofs.Numbers.{number-low, number-at}
-use Rattle.records.proofs.Scan.{All}
 use Rattle.records.proofs.Shape.{idsOf}
 use Rattle.records.proofs.Contents.{OperandIn, AbiIn, StepIn, BlockIn, FunctionIn}
 use Rattle.records.proofs.Placed.{Every, found-in}

@@ -2,7 +2,7 @@
 ghost use mathlib.Core.Path.{_≡_};
 ghost use mathlib.Core.List.{List};
 ghost use Prim.Native.Nat.{ℕ, _+_, _/_, _%_, _≤_};
-ghost use lib.ListN.{length, take, replicate};
+ghost use lib.ListN.{length, take};
 ghost use Rattle.rows.specs.Row.{pack};
 ghost use Rattle.records.specs.Pick.{has};
 ghost use Rattle.records.specs.Edition.{one};
@@ -29,16 +29,6 @@ pub enum Sought {
     Refused(Refusal),
 }
 
-fn clear(words: &mut [u32])
-    ensures { λ _. ⌜ now (words .exit) ≡ replicate (length (now (words .entry))) 0 ⌝ }
-{
-    let mut i = 0;
-    while i < words.len() {
-        words[i] = 0;
-        i += 1;
-    }
-}
-
 // Checks the file and looks for the step. Where there is none, the unit words are cleared again.
 pub fn find_step(file: &[u8], place: usize, words: &mut [u32], numbers: &mut [u16]) -> Sought
     requires { ⌜ (length (now words) ≡ 512) × (2341 ≤ length (now numbers)) ⌝ }
@@ -48,7 +38,7 @@ pub fn find_step(file: &[u8], place: usize, words: &mut [u32], numbers: &mut [u1
         Checked::Units(_) => match locate(file, place) {
             Located::At { own, here } => Sought::Here { own, here },
             Located::Nowhere => {
-                clear(words);
+                records::clear(words);
                 Sought::Refused(Refusal::Absent(place))
             }
         },

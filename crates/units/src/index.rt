@@ -12,6 +12,9 @@ use records::bytes::length_of;
 // What stands in the table where a number has no function.
 const NONE: u16 = 65535;
 
+// The kind of most records. The walk goes over one without waiting for its length.
+const OPERAND: u8 = 6;
+
 fn blank(table: &mut [u16])
     requires { ⌜ length (now table) ≡ 512 ⌝ }
     ensures { λ _. ⌜ ((n : ℕ) → n < 256 → (getD (now (table .exit)) n 0 ≡ 65535) × (getD (now (table .exit)) (256 + n) 0 ≡ 0)) ⌝ }
@@ -81,9 +84,14 @@ pub fn index_functions(file: &[u8], table: &mut [u16])
     let mut len = onward(file, at);
     while 0 < len {
         let kind = file[at];
-        enter(table, kind, file[at + 1], at + 2, k);
-        k += brings(kind);
-        at += len;
+        if kind == OPERAND {
+            k += 1;
+            at += 7;
+        } else {
+            enter(table, kind, file[at + 1], at + 2, k);
+            k += brings(kind);
+            at += len;
+        }
         len = onward(file, at);
     }
 }

@@ -6,6 +6,10 @@ use crate::random::Random;
 use crate::reader::check;
 
 const MOST_SAMPLE_BYTES: usize = 4_096;
+/// The turn of the crowded files, which are about placement.
+pub const CROWDED_TURN: u64 = 2;
+/// How many turns there are.
+pub const TURNS: u64 = 8;
 
 /// Between small and middle, so that the text of the answer stays short.
 const WIDE: Plan = Plan {
@@ -20,7 +24,7 @@ const WIDE: Plan = Plan {
 /// The file of this index in the sample of this seed. The kinds take turns, and one file in eight is refused.
 pub fn sample_file(seed: u64, index: u64) -> Vec<u8> {
     let mut random = Random::for_file(seed, index);
-    let turn = index % 8;
+    let turn = index % TURNS;
     loop {
         let file = candidate(&mut random, turn);
         if file.len() <= MOST_SAMPLE_BYTES && check(&file).is_ok() == (turn < 7) {
@@ -31,7 +35,8 @@ pub fn sample_file(seed: u64, index: u64) -> Vec<u8> {
 
 fn candidate(random: &mut Random, turn: u64) -> Vec<u8> {
     match turn {
-        0..=2 => file_of(random, Shape::Small),
+        0 | 1 => file_of(random, Shape::Small),
+        CROWDED_TURN => file_of(random, Shape::Crowded),
         3 => valid::random_file(random, WIDE).bytes(),
         4 => every_operation(random).bytes(),
         5 => {

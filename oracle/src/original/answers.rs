@@ -5,10 +5,11 @@ use std::sync::mpsc::{self, RecvTimeoutError};
 use std::thread;
 use std::time::Duration;
 
-use super::{Graph, Live, Original, Uses};
+use super::{Graph, Live, Original, Placed, Uses};
 use crate::compare::padded;
 use crate::program::{decode, Program};
-use crate::records::{GRAPH_WORDS, LIVE_WORDS, STORAGE_ROW, UNIT_ROW};
+use crate::reader::check;
+use crate::records::{GRAPH_WORDS, LIVE_WORDS, PLACE, RESULT_BYTES, STORAGE_ROW, UNIT_ROW};
 
 /// No file of the format keeps the original this long.
 const LONGEST: Duration = Duration::from_secs(120);
@@ -20,6 +21,16 @@ pub struct Answers {
     pub steps: Vec<StepAnswer>,
     pub graph: Vec<u64>,
     pub copies: Vec<u64>,
+    /// The placement, or the number and value of its refusal.
+    pub placed: Result<PlaceAnswer, (u32, u32)>,
+}
+
+#[derive(Clone, Debug)]
+pub struct PlaceAnswer {
+    pub storages: u64,
+    pub slots: u64,
+    /// The bytes of the result, zeros up to the needed length.
+    pub result: Vec<u8>,
 }
 
 #[derive(Clone, Debug)]
@@ -37,6 +48,28 @@ pub struct StepAnswer {
     pub effect: bool,
 }
 
+/// What the Rust says about a file.
+pub enum Judged {
+    Answered(Box<Answers>),
+    /// The reader's number and value.
+    Refused(u32, u32),
+    /// The original gave no answer, for this reason.
+    Unanswered(&'static str),
+}
+
+impl Judged {
+    pub fn of(file: &[u8]) -> Self {
+        let units = match check(file) {
+            Ok(units) => units,
+            Err((number, value)) => return Self::Refused(number, value),
+        };
+        match Answers::in_time(file, &units) {
+            Ok(answers) => Self::Answered(answers),
+            Err(reason) => Self::Unanswered(reason),
+        }
+    }
+}
+
 impl Answers {
     /// The units are those that the reader found.
     pub fn of(file: &[u8], units: &[u32]) -> Self {
@@ -50,15 +83,16 @@ impl Answers {
             steps: step_answers(&program, &original, &numbers),
             graph,
             copies,
+            placed: original.place(&program).map(place_answer),
         }
     }
 
     /// The same from a thread of its own, so that a panic or a loop without end costs one file. Says what happened where
     /// there is no answer.
-    pub fn in_time(file: &[u8], units: &[u32]) -> Result<Self, &'static str> {
+    pub fn in_time(file: &[u8], units: &[u32]) -> Result<Box<Self>, &'static str> {
         let (sender, receiver) = mpsc::channel();
         let (file, units) = (file.to_vec(), units.to_vec());
-        thread::spawn(move || sender.send(Self::of(&file, &units)));
+        thread::spawn(move || sender.send(Box::new(Self::of(&file, &units))));
         receiver.recv_timeout(LONGEST).map_err(|error| match error {
             RecvTimeoutError::Timeout => "does not end",
             RecvTimeoutError::Disconnected => "panics",
@@ -67,6 +101,39 @@ impl Answers {
 
     pub fn passes(&self) -> u64 {
         self.functions.iter().map(|function| function.passes).sum()
+    }
+
+    /// The words besides the units that graph and placing leave: the live sets of the last function, graph and copies.
+    pub fn last_words(&self) -> Vec<&[u64]> {
+        let last = self.functions.last().expect("an accepted file has a function");
+        vec![&last.live, &self.graph, &self.copies]
+    }
+
+    /// Passes, slots and storages in the one number that placing answers.
+    pub fn place_number(&self, placed: &PlaceAnswer) -> u64 {
+        self.passes() * PASS_UNIT + placed.slots * SLOT_UNIT + placed.storages
+    }
+}
+
+/// What one slot and one pass count in the answer of placing: at most 256 storages stand below a slot, at most 256 slots
+/// below a pass.
+const SLOT_UNIT: u64 = 512;
+const PASS_UNIT: u64 = 512 * SLOT_UNIT;
+
+fn place_answer(placed: Placed) -> PlaceAnswer {
+    let mut result = Vec::with_capacity(RESULT_BYTES);
+    for (id, fixed) in &placed.placements {
+        result.push(PLACE);
+        result.extend(id.to_le_bytes());
+        result.push(fixed.code);
+        result.extend(fixed.a.to_le_bytes());
+        result.extend(fixed.b.to_le_bytes());
+    }
+    result.resize(RESULT_BYTES, 0);
+    PlaceAnswer {
+        storages: placed.placements.len() as u64,
+        slots: placed.slots as u64,
+        result,
     }
 }
 

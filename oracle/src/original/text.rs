@@ -8,17 +8,7 @@ use crate::explain::explain;
 use crate::program::{decode, Function, Program};
 use crate::reader::check;
 
-/// Units, live sets, queries, graph and copies.
-pub fn explain_analysis(file: &[u8]) -> String {
-    let mut text = explain(file);
-    if let Ok(units) = check(file) {
-        let program = decode(file);
-        analysis_part(&mut text, &program, &Original::new(&program), &units);
-    }
-    text
-}
-
-/// The same and the placement, where the allocator was built for the file's sizes.
+/// Units, live sets, queries, graph and copies, then the placement.
 pub fn explain_whole(file: &[u8]) -> String {
     let mut text = explain(file);
     if let Ok(units) = check(file) {
@@ -105,9 +95,8 @@ fn graph_part(text: &mut String, program: &Program, original: &Original, passes:
 
 fn place_part(text: &mut String, program: &Program, original: &Original, passes: usize) {
     match original.place(program) {
-        None => {}
-        Some(Err((number, value))) => line(text, format_args!("place refused {number} {value}")),
-        Some(Ok(placed)) => {
+        Err((number, value)) => line(text, format_args!("place refused {number} {value}")),
+        Ok(placed) => {
             for (id, fixed) in &placed.placements {
                 line(text, format_args!("place {id} {} {} {}", fixed.code, fixed.a, fixed.b));
             }

@@ -5,7 +5,7 @@ use std::cell::RefCell;
 use oracle::entry::Library;
 use oracle::original::answers::Answers;
 use oracle::reader::check;
-use oracle::records::{GRAPH_WORDS, LIVE_WORDS, MOST_UNITS, STORAGE_ROW, UNIT_ROW};
+use oracle::records::{GRAPH_WORDS, LIVE_WORDS, MOST_UNITS, RESULT_BYTES, STORAGE_ROW, UNIT_ROW};
 
 const TOO_SHORT: u64 = 1 << 32;
 
@@ -23,6 +23,7 @@ pub fn library() -> Library {
         effect: Some(effect),
         live: Some(live),
         graph: Some(graph),
+        place: Some(place),
     }
 }
 
@@ -144,5 +145,32 @@ pub fn graph(file: &[u8], units: &mut [u32], live: &mut [u64], graph: &mut [u64]
         graph[..GRAPH_WORDS].copy_from_slice(&answers.graph);
         copies[..GRAPH_WORDS].copy_from_slice(&answers.copies);
         Ok(answers.passes())
+    })
+}
+
+pub fn place(
+    file: &[u8],
+    units: &mut [u32],
+    live: &mut [u64],
+    graph: &mut [u64],
+    copies: &mut [u64],
+    result: &mut [u8],
+) -> u64 {
+    let short = units.len() < MOST_UNITS || live.len() < LIVE_WORDS || result.len() < RESULT_BYTES;
+    if short || graph.len() < GRAPH_WORDS || copies.len() < GRAPH_WORDS {
+        return TOO_SHORT;
+    }
+    live[..LIVE_WORDS].fill(0);
+    graph[..GRAPH_WORDS].fill(0);
+    copies[..GRAPH_WORDS].fill(0);
+    with_units(file, units, |answers| {
+        let placed = answers.placed.as_ref();
+        let placed = placed.map_err(|(number, value)| refusal(*number, *value as usize))?;
+        result[..RESULT_BYTES].copy_from_slice(&placed.result);
+        let words = answers.last_words();
+        live[..LIVE_WORDS].copy_from_slice(words[0]);
+        graph[..GRAPH_WORDS].copy_from_slice(words[1]);
+        copies[..GRAPH_WORDS].copy_from_slice(words[2]);
+        Ok(answers.place_number(placed))
     })
 }

@@ -1,79 +1,45 @@
--- `close_row` meets its contract. The invariant: the units still ahead make of the graph now what all of them make of it at the start.
+-- `close_row` meets its contract. The invariant: the units of the words still to come make of the graph now what all of them make of it at the start.
 -- Assumes nothing.
 use mathlib.Core.Path.{refl}
-use Prim.Native.Nat.{_-_}
-use native.Mathlib.Omega.{arith}
 use mathlib.Core.List.{List}
-use Prim.Native.Nat.{ℕ}
+use Prim.Native.Nat.{ℕ, _-_}
+use native.Mathlib.Omega.{arith}
 use Rattle.units.specs.Sets.{each}
 use Rattle.graph.specs.Closing.{linked, apartAll}
-use Rattle.graph.proofs.Walks.{Walking, walk-start, walk-on, walk-end}
-use Rattle.graph.proofs.Closes.{link-next}
+use Rattle.graph.proofs.Walks.{Rowing, row-start, row-on, row-end}
 use Rattle.graph.proofs.close.close_row.Statement.{statement}
 use Rattle.graph.proofs.close.close_row.Tie as tie
 
 abbrev Inv-loop : tie.InvT-loop
-Inv-loop row words graph₀ i v₀ graph v = Walking (λ (js : List ℕ). linked (apartAll i js)) words row 1024 graph₀ graph v
+Inv-loop row words graph₀ i n₀ graph n = Rowing (λ (js : List ℕ). linked (apartAll i js)) words row 1024 graph₀ graph n
 
 abbrev μ-loop : tie.MeasureT-loop
-μ-loop row words graph₀ i v₀ graph v = 512 - v
-
-next-member-requires : tie.Need-next-member-requires Inv-loop μ-loop
-next-member-requires c κs = omega arith
+μ-loop row words graph₀ i n₀ graph n = 8 - n
 
 loop-holds : tie.Need-loop-holds Inv-loop μ-loop
-loop-holds c = walk-start _ _ _ _ _ (omega arith) _ (omega arith) (c .next-member .ensures)
+loop-holds c = row-start _ _ _ _ _ (omega arith)
 
-mul-storage-of : tie.Need-mul-storage-of Inv-loop μ-loop
-mul-storage-of c = omega arith
+close-word-requires : tie.Need-close-word-requires Inv-loop μ-loop
+close-word-requires c κs = omega arith
 
-shared-slice-read-storage-of : tie.Need-shared-slice-read-storage-of Inv-loop μ-loop
-shared-slice-read-storage-of c = omega arith
-
-storage-of-requires : tie.Need-storage-of-requires Inv-loop μ-loop
-storage-of-requires c κs = omega arith
-
-link-requires : tie.Need-link-requires Inv-loop μ-loop
-link-requires c κs = omega arith
-
-add-next-member : tie.Need-add-next-member Inv-loop μ-loop
-add-next-member c = omega arith
-
-next-member-requires-2 : tie.Need-next-member-requires-2 Inv-loop μ-loop
-next-member-requires-2 c κs = omega arith
+add-n : tie.Need-add-n Inv-loop μ-loop
+add-n c = omega arith
 
 loop-less : tie.Need-loop-less Inv-loop μ-loop
 loop-less c = omega arith
 
 loop-again : tie.Need-loop-again Inv-loop μ-loop
 loop-again c =
-    let u = c .before .before .before in
-    let w = u .before .before .before .before in
-    walk-on _ _ _ _ _ (omega arith) (w .before .loop .inv) _ _ _ (w .loop-test .taken) (omega arith) (u .before .storage-of .ensures .0)
-    (link-next _ _ _ _ (u .link .ensures)) (c .next-member2 .ensures)
+    let u = c .before .before in
+    let w = u .before .before in
+    row-on _ _ _ _ _ (w .before .loop .inv) _ (w .loop-test .taken) (omega arith) (u .close-word .ensures)
 
 same-length : tie.Need-same-length Inv-loop μ-loop
 same-length c = omega arith
 
 returns : tie.Need-returns Inv-loop μ-loop
 unfolding linked apartAll each
-returns c = walk-end _ _ _ _ _ (omega arith) (c .before .loop .inv) (c .loop-test .left) refl
+returns c = row-end _ _ _ _ _ (c .before .loop .inv) (omega arith) (c .loop-test .left) refl
 
 pub close-row-spec : {M : Type 1} → statement M
-close-row-spec =
-    tie.close
-    (tie.spec
-    Inv-loop
-    μ-loop
-    next-member-requires
-    loop-holds
-    mul-storage-of
-    shared-slice-read-storage-of
-    storage-of-requires
-    link-requires
-    add-next-member
-    next-member-requires-2
-    loop-less
-    loop-again
-    same-length
-    returns)
+close-row-spec = tie.close (tie.spec Inv-loop μ-loop loop-holds close-word-requires add-n loop-less loop-again same-length returns)

@@ -3,8 +3,10 @@
 use Prim.Native.Nat.{_-_}
 use native.Mathlib.Omega.{arith}
 use lib.ListN.{length}
-use Rattle.graph.specs.Closing.{declared, ownPairs, holdPairs, heldBy}
-use Rattle.graph.proofs.Closes.{Storing, store-start, store-on, store-end, opened, opens-inside}
+use Rattle.storages.specs.File.{declared}
+use Rattle.storages.proofs.Declared.{opened, opens-inside}
+use Rattle.graph.specs.Closing.{ownPairs, holdPairs, heldBy}
+use Rattle.graph.proofs.Closes.{Storing, store-start, store-on, store-end}
 use Rattle.graph.proofs.close.hold.Statement.{statement}
 use Rattle.graph.proofs.close.hold.Tie as tie
 

@@ -4,7 +4,8 @@ use Prim.Native.Nat.{_-_}
 use native.Mathlib.Omega.{arith}
 use lib.ListN.{length}
 use Rattle.graph.specs.Closing.{ownPair}
-use Rattle.graph.proofs.Closes.{Storing, store-start, store-on, store-end, opened, opens-inside}
+use Rattle.storages.proofs.Declared.{opened, opens-inside}
+use Rattle.graph.proofs.Closes.{Storing, store-start, store-on, store-end}
 use Rattle.graph.proofs.close.hold_all.Statement.{statement}
 use Rattle.graph.proofs.close.hold_all.Tie as tie
 

@@ -1,24 +1,27 @@
--- `take_functions` meets its contract. The invariant: the functions before the cursor are noted, in file order; each turn leaves one function less to come.
--- The file is accepted, so that a function's record is followed by its own records. Assumes nothing.
+-- `take_functions` meets its contract. The invariant: the functions before the cursor are noted, in file order, and the rows hold nothing for the blocks
+-- that the last of them does not have; each turn leaves one function less to come. The file is accepted, so that a function's record is followed by its own records.
 use native.Mathlib.Omega.{arith}
 use borrow.Author.Needs.{needs}
 use Prim.Native.Nat.{ℕ, _≤_, _-_, _+_}
-use mathlib.Core.Path.{_≡_, refl, sym, _∙_}
+use mathlib.Core.Path.{_≡_, refl, sym, subst, _∙_}
 use mathlib.Core.List.{List}
 use lib.ListN.{length}
 use Rattle.units.specs.Along.{from, Sound}
 use Rattle.units.specs.declared.cursor.Cursor.{Cursor}
-use Rattle.graph.specs.Walking.{Sized, Granted, Walked}
-use Rattle.graph.proofs.Walked.{blank-length, blank-again, walked-none, next-owner, next-room, walked-more, next-less, walked-all}
+use Rattle.liveness.specs.Passes.{Held}
+use Rattle.liveness.proofs.Passing.{blank-held}
+use Rattle.graph.specs.Walking.{Sized, Lent, Granted, Walked}
+use Rattle.graph.proofs.Walked.{blank-length, walked-none, next-owner, next-room, walked-more, next-less, walked-all}
 use Rattle.graph.proofs.walk.take_functions.Statement.{statement}
 use Rattle.graph.proofs.walk.take_functions.Tie as tie
 
 abbrev Inv-loop : tie.InvT-loop
-Inv-loop file numbers table words units rows₀ meets₀ copies₀ addressed₀ c₀ passes₀ rows meets copies addressed c passes =
+Inv-loop file numbers table words units rows₀ meets₀ copies₀ addressed₀ gens₀ kills₀ targets₀ starts₀ places₀ counts₀ firsts₀ c₀ passes₀ blocks₀ rows meets copies addressed gens kills targets starts places counts firsts c passes blocks =
     Sound c × Sized meets copies addressed × (length rows ≡ 2048) × ((us : List ℕ) → Granted file us numbers table words units → Walked file us c passes rows meets copies addressed)
+    × Held rows blocks × (blocks ≤ 128) × Lent gens kills targets starts places counts firsts
 
 abbrev μ-loop : tie.MeasureT-loop
-μ-loop file numbers table words units rows₀ meets₀ copies₀ addressed₀ c₀ passes₀ rows meets copies addressed c passes =
+μ-loop file numbers table words units rows₀ meets₀ copies₀ addressed₀ gens₀ kills₀ targets₀ starts₀ places₀ counts₀ firsts₀ c₀ passes₀ blocks₀ rows meets copies addressed gens kills targets starts places counts firsts c passes blocks =
     length (from file (c .at) .functions)
 
 seek-requires : tie.Need-seek-requires Inv-loop μ-loop
@@ -27,54 +30,100 @@ seek-requires c κs = (c .before .before .before .before .before .before .before
 loop-holds : tie.Need-loop-holds Inv-loop μ-loop
 loop-holds c =
     let p = c .before .before .before .before .before .before .before .before .before .before .pre in
-    let s = c .seek .ensures in
-    (s .0 .sound, (blank-length _ _ (p .6), blank-length _ _ (p .7), blank-length _ _ (p .8)), blank-length _ _ (p .5), λ us g. walked-none _ us _ _ _ _ g _ _ _ _ _ (s .0) (s .1) (p .5) (p .6) (p .7) (p .8))
+    let s = c .seek .ensures in (
+      s .0 .sound,
+      (blank-length _ _ (p .6), blank-length _ _ (p .7), blank-length _ _ (p .8)),
+      blank-length _ _ (p .5),
+      λ us g. walked-none _ us _ _ _ _ g _ _ _ _ _ (s .0) (s .1) (p .5) (p .6) (p .7) (p .8),
+      subst (λ (l : List ℕ). Held l 0) (sym (p .5)) (blank-held 0),
+      omega arith,
+      (search needs, search needs, search needs, search needs, search needs, search needs, search needs),
+    )
 
 at-function-requires : tie.Need-at-function-requires Inv-loop μ-loop
 at-function-requires c κs = search needs
 
-clear-requires : tie.Need-clear-requires Inv-loop μ-loop
-clear-requires c κs = omega (arith, c .before .before .before .loop .inv .2)
+clear-rows-requires : tie.Need-clear-rows-requires Inv-loop μ-loop
+clear-rows-requires c κs = (c .before .before .before .loop .inv .4, c .before .before .before .loop .inv .5)
 
-add-t20 : tie.Need-add-t20 Inv-loop μ-loop
-add-t20 c =
-    let l = c .before .before .before .before .before .before .before .loop in
+add-t28 : tie.Need-add-t28 Inv-loop μ-loop
+add-t28 c =
     let p = c .before .before .before .before .before .before .before .before .before .before .before .before .before .before .before .before .before .before .pre in
     let y = c .before .before .before .before .before .before .at-function .ensures .yes (c .before .before .before .before .before .if1 .taken) in
     omega (arith, y .1, p .0)
 
+slice-aggregate-take-function : tie.Need-slice-aggregate-take-function Inv-loop μ-loop
+slice-aggregate-take-function c = omega (arith, c .before .before .before .before .before .before .before .before .before .before .before .before .loop .inv .6 .0)
+
+slice-aggregate-take-function-2 : tie.Need-slice-aggregate-take-function-2 Inv-loop μ-loop
+slice-aggregate-take-function-2 c = omega (arith, c .before .before .before .before .before .before .before .before .before .before .before .before .before .loop .inv .6 .1)
+
+slice-aggregate-take-function-3 : tie.Need-slice-aggregate-take-function-3 Inv-loop μ-loop
+slice-aggregate-take-function-3 c = omega (arith, c .before .before .before .before .before .before .before .before .before .before .before .before .before .before .loop .inv .6 .2)
+
+slice-aggregate-take-function-4 : tie.Need-slice-aggregate-take-function-4 Inv-loop μ-loop
+slice-aggregate-take-function-4 c = omega (arith, c .before .before .before .before .before .before .before .before .before .before .before .before .before .before .before .loop .inv .6 .3)
+
+slice-aggregate-take-function-5 : tie.Need-slice-aggregate-take-function-5 Inv-loop μ-loop
+slice-aggregate-take-function-5 c = omega (arith, c .before .before .before .before .before .before .before .before .before .before .before .before .before .before .before .before .loop .inv .6 .4)
+
+slice-aggregate-take-function-6 : tie.Need-slice-aggregate-take-function-6 Inv-loop μ-loop
+slice-aggregate-take-function-6 c = omega (arith, c .before .before .before .before .before .before .before .before .before .before .before .before .before .before .before .before .before .loop .inv .6 .5)
+
+slice-aggregate-take-function-7 : tie.Need-slice-aggregate-take-function-7 Inv-loop μ-loop
+slice-aggregate-take-function-7 c = omega (arith, c .before .before .before .before .before .before .before .before .before .before .before .before .before .before .before .before .before .before .loop .inv .6 .6)
+
 take-function-requires : tie.Need-take-function-requires Inv-loop μ-loop
 take-function-requires c κs =
-    let l = c .before .before .before .before .before .before .before .before .before .before .before .loop in
-    let p = c .before .before .before .before .before .before .before .before .before .before .before .before .before .before .before .before .before .before .before .before .before .before .pre in
-    let y = c .before .before .before .before .before .before .before .before .before .before .at-function .ensures .yes (c .before .before .before .before .before .before .before .before .before .if1 .taken) in
-    let own : Cursor = record { at = l .c .at + 2; k = l .c .k } in
-    (p .0, p .1, p .2, omega (arith, l .inv .0), next-owner _ _ _ _ _ _ (p .9 .1) (l .c) own (l .c) _ 0 (l .rows) (l .meets) (l .copies) (l .addressed) (l .rows) (l .meets) (l .copies) (l .addressed) (l .inv .3 (p .9 .0) (p .9 .1)) y refl refl, p .3, p .4, blank-again _ _ (l .inv .2) (c .before .before .before .before .before .before .before .clear .ensures), l .inv .1 .0, l .inv .1 .1, l .inv .1 .2)
+    let l = c .before .before .before .before .before .before .before .before .before .before .before .before .before .before .before .before .before .before .loop in
+    let p = c .before .before .before .before .before .before .before .before .before .before .before .before .before .before .before .before .before .before .before .before .before .before .before .before .before .before .before .before .before .pre in
+    let y = c .before .before .before .before .before .before .before .before .before .before .before .before .before .before .before .before .before .at-function .ensures .yes (c .before .before .before .before .before .before .before .before .before .before .before .before .before .before .before .before .if1 .taken) in
+    let own : Cursor = record { at = l .c .at + 2; k = l .c .k } in (
+      p .0,
+      p .1,
+      p .2,
+      omega (arith, l .inv .0),
+      next-owner _ _ _ _ _ _ (p .9 .1) (l .c) own (l .c) _ 0 0 (l .rows) (l .meets) (l .copies) (l .addressed) (l .rows) (l .meets) (l .copies) (l .addressed) (l .inv .3 (p .9 .0) (p .9 .1)) y refl refl,
+      p .3,
+      p .4,
+      c .before .before .before .before .before .before .before .before .before .before .before .before .before .before .clear-rows .ensures,
+      l .inv .1 .0,
+      l .inv .1 .1,
+      l .inv .1 .2,
+      (omega (arith, l .inv .6 .0), omega (arith, l .inv .6 .1), omega (arith, l .inv .6 .2), omega (arith, l .inv .6 .3), omega (arith, l .inv .6 .4), omega (arith, l .inv .6 .5), omega (arith, l .inv .6 .6)),
+    )
 
 add-passes : tie.Need-add-passes Inv-loop μ-loop
 add-passes c =
-    let l = c .before .before .before .before .before .before .before .before .before .before .before .before .before .before .before .before .before .before .before .before .before .loop in
-    let p = c .before .before .before .before .before .before .before .before .before .before .before .before .before .before .before .before .before .before .before .before .before .before .before .before .before .before .before .before .before .before .before .before .pre in
-    let y = c .before .before .before .before .before .before .before .before .before .before .before .before .before .before .before .before .before .before .before .before .at-function .ensures .yes (c .before .before .before .before .before .before .before .before .before .before .before .before .before .before .before .before .before .before .before .if1 .taken) in
+    let l = c .before .before .before .before .before .before .before .before .before .before .before .before .before .before .before .before .before .before .before .before .before .before .before .before .before .before .before .before .before .before .before .before .before .before .before .loop in
+    let p = c .before .before .before .before .before .before .before .before .before .before .before .before .before .before .before .before .before .before .before .before .before .before .before .before .before .before .before .before .before .before .before .before .before .before .before .before .before .before .before .before .before .before .before .before .before .before .pre in
+    let y = c .before .before .before .before .before .before .before .before .before .before .before .before .before .before .before .before .before .before .before .before .before .before .before .before .before .before .before .before .before .before .before .before .before .before .at-function .ensures .yes (c .before .before .before .before .before .before .before .before .before .before .before .before .before .before .before .before .before .before .before .before .before .before .before .before .before .before .before .before .before .before .before .before .before .if1 .taken) in
     let own : Cursor = record { at = l .c .at + 2; k = l .c .k } in
-    omega (arith, next-room _ _ _ _ _ _ (p .9 .1) (l .c) own (l .c) _ 0 (l .rows) (l .meets) (l .copies) (l .addressed) (l .rows) (l .meets) (l .copies) (l .addressed) (l .inv .3 (p .9 .0) (p .9 .1)) y refl refl (p .0), c .before .before .before .before .before .before .before .before .before .take-function .ensures .few)
+    omega (arith, next-room _ _ _ _ _ _ (p .9 .1) (l .c) own (l .c) _ 0 0 (l .rows) (l .meets) (l .copies) (l .addressed) (l .rows) (l .meets) (l .copies) (l .addressed) (l .inv .3 (p .9 .0) (p .9 .1)) y refl refl (p .0), c .before .before .before .before .before .before .before .before .before .before .before .before .before .before .before .before .take-function .ensures .few)
 
 loop-less : tie.Need-loop-less Inv-loop μ-loop
 loop-less c =
-    let l = c .before .before .before .before .before .before .before .before .before .before .before .before .before .before .before .before .before .before .before .before .before .before .loop in
-    let p = c .before .before .before .before .before .before .before .before .before .before .before .before .before .before .before .before .before .before .before .before .before .before .before .before .before .before .before .before .before .before .before .before .before .pre in
-    let y = c .before .before .before .before .before .before .before .before .before .before .before .before .before .before .before .before .before .before .before .before .before .at-function .ensures .yes (c .before .before .before .before .before .before .before .before .before .before .before .before .before .before .before .before .before .before .before .before .if1 .taken) in
+    let l = c .before .before .before .before .before .before .before .before .before .before .before .before .before .before .before .before .before .before .before .before .before .before .before .before .before .before .before .before .before .before .before .before .before .before .before .before .loop in
+    let p = c .before .before .before .before .before .before .before .before .before .before .before .before .before .before .before .before .before .before .before .before .before .before .before .before .before .before .before .before .before .before .before .before .before .before .before .before .before .before .before .before .before .before .before .before .before .before .before .pre in
+    let y = c .before .before .before .before .before .before .before .before .before .before .before .before .before .before .before .before .before .before .before .before .before .before .before .before .before .before .before .before .before .before .before .before .before .before .before .at-function .ensures .yes (c .before .before .before .before .before .before .before .before .before .before .before .before .before .before .before .before .before .before .before .before .before .before .before .before .before .before .before .before .before .before .before .before .before .before .if1 .taken) in
     let own : Cursor = record { at = l .c .at + 2; k = l .c .k } in
-    next-less _ _ _ _ _ _ (p .9 .1) (l .c) own _ _ _ _ _ _ _ _ _ _ _ (l .inv .3 (p .9 .0) (p .9 .1)) y refl refl (c .before .before .before .before .before .before .before .before .before .before .take-function .ensures)
+    next-less _ _ _ _ _ _ (p .9 .1) (l .c) own _ _ _ _ _ _ _ _ _ _ _ _ (l .inv .3 (p .9 .0) (p .9 .1)) y refl refl (c .before .before .before .before .before .before .before .before .before .before .before .before .before .before .before .before .before .take-function .ensures)
 
 loop-again : tie.Need-loop-again Inv-loop μ-loop
 loop-again c =
-    let l = c .before .before .before .before .before .before .before .before .before .before .before .before .before .before .before .before .before .before .before .before .before .before .loop in
-    let p = c .before .before .before .before .before .before .before .before .before .before .before .before .before .before .before .before .before .before .before .before .before .before .before .before .before .before .before .before .before .before .before .before .before .pre in
-    let y = c .before .before .before .before .before .before .before .before .before .before .before .before .before .before .before .before .before .before .before .before .before .at-function .ensures .yes (c .before .before .before .before .before .before .before .before .before .before .before .before .before .before .before .before .before .before .before .before .if1 .taken) in
+    let l = c .before .before .before .before .before .before .before .before .before .before .before .before .before .before .before .before .before .before .before .before .before .before .before .before .before .before .before .before .before .before .before .before .before .before .before .before .loop in
+    let p = c .before .before .before .before .before .before .before .before .before .before .before .before .before .before .before .before .before .before .before .before .before .before .before .before .before .before .before .before .before .before .before .before .before .before .before .before .before .before .before .before .before .before .before .before .before .before .before .pre in
+    let y = c .before .before .before .before .before .before .before .before .before .before .before .before .before .before .before .before .before .before .before .before .before .before .before .before .before .before .before .before .before .before .before .before .before .before .before .at-function .ensures .yes (c .before .before .before .before .before .before .before .before .before .before .before .before .before .before .before .before .before .before .before .before .before .before .before .before .before .before .before .before .before .before .before .before .before .before .if1 .taken) in
     let own : Cursor = record { at = l .c .at + 2; k = l .c .k } in
-    let t = c .before .before .before .before .before .before .before .before .before .before .take-function .ensures in
-    (t .sound, (search needs, search needs, search needs), search needs, λ us g. walked-more _ us _ _ _ _ g (l .c) own _ _ _ _ _ _ _ _ _ _ _ (l .inv .3 us g) y refl refl t)
+    let t = c .before .before .before .before .before .before .before .before .before .before .before .before .before .before .before .before .before .take-function .ensures in (
+      t .sound,
+      (search needs, search needs, search needs),
+      t .held .len,
+      λ us g. walked-more _ us _ _ _ _ g (l .c) own _ _ _ _ _ _ _ _ _ _ _ _ (l .inv .3 us g) y refl refl t,
+      t .held,
+      t .fewer,
+      (search needs, search needs, search needs, search needs, search needs, search needs, search needs),
+    )
 
 same-length : tie.Need-same-length Inv-loop μ-loop
 same-length c = c .before .before .loop .inv .2 ∙ sym (blank-length _ _ (c .before .before .before .before .before .before .before .before .before .before .before .before .before .pre .5))
@@ -101,8 +150,15 @@ take-functions-spec =
     seek-requires
     loop-holds
     at-function-requires
-    clear-requires
-    add-t20
+    clear-rows-requires
+    add-t28
+    slice-aggregate-take-function
+    slice-aggregate-take-function-2
+    slice-aggregate-take-function-3
+    slice-aggregate-take-function-4
+    slice-aggregate-take-function-5
+    slice-aggregate-take-function-6
+    slice-aggregate-take-function-7
     take-function-requires
     add-passes
     loop-less

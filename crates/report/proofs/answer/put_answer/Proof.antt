@@ -2,6 +2,7 @@
 -- A count that is at most the page's length counts bytes of that page (`counts` of `io`).
 use borrow.Author.Needs.{needs}
 use Rattle.io.proofs.Counting.{counts}
+use Rattle.report.proofs.Joined.{refused-text}
 use Rattle.report.proofs.answer.put_answer.Statement.{statement}
 use Rattle.report.proofs.answer.put_answer.Tie as tie
 
@@ -27,7 +28,9 @@ same-length-2 : tie.Need-same-length-2
 same-length-2 c = search needs
 
 returns-2 : tie.Need-returns-2
-returns-2 c = (counts _ _ (search needs), cc)
+returns-2 c =
+    let known = c .before .before .before .before .before .checked2 .given .1 in
+    (counts _ _ (search needs), refused-text _ _ _ known (c .before .before .put-refusal .ensures .1))
 
 pub put-answer-spec : {M : Type 1} → statement M
 put-answer-spec =

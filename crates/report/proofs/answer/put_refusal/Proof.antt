@@ -1,5 +1,5 @@
 -- `report::answer::put_refusal` is safe and puts the line of one refusal. Its parts take at most 8, 20, 1, 20 and 1 bytes,
--- and each follows the one before it, from the start of the page on.
+-- and each follows the one before it, which is what `refusalText` says.
 use borrow.Author.Needs.{needs}
 use Rattle.report.proofs.Joined.{refusal-parts}
 use Rattle.report.proofs.answer.put_refusal.Statement.{statement}
@@ -54,7 +54,7 @@ returns c =
     refusal-parts (c1 .before .before .before .before .args .refusal) (n .number-of .result) (v .value-of .result) (n .number-of .ensures)
     (v .value-of .ensures)
     (c5 .put3 .ensures .1) (c4 .put-number2 .ensures .1) (c3 .put2 .ensures .1) (c2 .put-number .ensures .1) (c1 .put .ensures .1) in
-    (search needs, line .same)
+    (search needs, line)
 
 pub put-refusal-spec : {M : Type 1} → statement M
 put-refusal-spec =

@@ -1,10 +1,12 @@
 -- What the program's functions say of a number is what the table says, else what is to come says (`Indexing`); where the walk stops, nothing is to come.
--- The measure is what is left of the file.
-use Prim.Native.Nat.{_+_, _-_}
-use lib.ListN.{length}
+-- Over an operand it goes as over any record, since that has seven bytes and is no function. The measure is what is left of the file.
+use mathlib.Core.Path.{_∙_, sym}
+use mathlib.Core.Logic.{⊎-elim}
+use Prim.Native.Nat.{_+_, _-_, _<_}
+use lib.ListN.{length, getD}
 use native.Mathlib.Omega.{arith}
 use borrow.Author.Needs.{needs}
-use Rattle.units.proofs.Indexing.{Indexing, indexing-start, at-two, at-len, brings-long, indexing-on, indexing-end}
+use Rattle.units.proofs.Indexing.{Indexing, indexing-start, at-two, at-len, brings-long, indexing-by, operand-long, operand-brings, operand-table, indexing-end}
 use Rattle.units.proofs.index.index_functions.Statement.{statement}
 use Rattle.units.proofs.index.index_functions.Tie as tie
 
@@ -31,60 +33,79 @@ shared-slice-read-kind c =
     let l = c .before .before .loop in
     omega (arith, at-two (s .args .file .now) (l .table) (l .at) (l .k) (l .len) (l .inv) (s .pre .0) (c .before .loop-test .taken), s .pre .0)
 
-add-enter : tie.Need-add-enter Inv-loop μ-loop
-add-enter c =
+add-k : tie.Need-add-k Inv-loop μ-loop
+add-k c =
     let s = c .before .before .before .before .before .before .before .before .before .before .before in
     let l = c .before .before .before .loop in
-    omega (arith, at-two (s .args .file .now) (l .table) (l .at) (l .k) (l .len) (l .inv) (s .pre .0) (c .before .before .loop-test .taken), s .pre .0)
+    omega (arith, at-len (s .args .file .now) (l .table) (l .at) (l .k) (l .len) (l .inv) (s .pre .0) (c .before .before .loop-test .taken), operand-long (s .args .file .now) (l .table) (l .at) (l .k) (l .len) (l .inv) (s .pre .0) (c .before .before .loop-test .taken) (c .if1 .taken), s .pre .0, l .inv .early)
+
+add-at : tie.Need-add-at Inv-loop μ-loop
+add-at c =
+    let s = c .before .before .before .before .before .before .before .before .before .before .before in
+    let l = c .before .before .before .loop in
+    omega (arith, at-len (s .args .file .now) (l .table) (l .at) (l .k) (l .len) (l .inv) (s .pre .0) (c .before .before .loop-test .taken), operand-long (s .args .file .now) (l .table) (l .at) (l .k) (l .len) (l .inv) (s .pre .0) (c .before .before .loop-test .taken) (c .if1 .taken), s .pre .0, l .inv .early)
+
+add-enter : tie.Need-add-enter Inv-loop μ-loop
+add-enter c =
+    let s = c .before .before .before .before .before .before .before .before .before .before .before .before in
+    let l = c .before .before .before .before .loop in
+    omega (arith, at-two (s .args .file .now) (l .table) (l .at) (l .k) (l .len) (l .inv) (s .pre .0) (c .before .before .before .loop-test .taken), s .pre .0)
 
 shared-slice-read-enter : tie.Need-shared-slice-read-enter Inv-loop μ-loop
 shared-slice-read-enter c =
-    let s = c .before .before .before .before .before .before .before .before .before .before .before .before in
-    let l = c .before .before .before .before .loop in
-    omega (arith, at-two (s .args .file .now) (l .table) (l .at) (l .k) (l .len) (l .inv) (s .pre .0) (c .before .before .before .loop-test .taken), s .pre .0)
+    let s = c .before .before .before .before .before .before .before .before .before .before .before .before .before in
+    let l = c .before .before .before .before .before .loop in
+    omega (arith, at-two (s .args .file .now) (l .table) (l .at) (l .k) (l .len) (l .inv) (s .pre .0) (c .before .before .before .before .loop-test .taken), s .pre .0)
 
 add-enter-2 : tie.Need-add-enter-2 Inv-loop μ-loop
 add-enter-2 c =
-    let s = c .before .before .before .before .before .before .before .before .before .before .before .before in
-    let l = c .before .before .before .before .loop in
-    omega (arith, at-two (s .args .file .now) (l .table) (l .at) (l .k) (l .len) (l .inv) (s .pre .0) (c .before .before .before .loop-test .taken), s .pre .0)
+    let s = c .before .before .before .before .before .before .before .before .before .before .before .before .before in
+    let l = c .before .before .before .before .before .loop in
+    omega (arith, at-two (s .args .file .now) (l .table) (l .at) (l .k) (l .len) (l .inv) (s .pre .0) (c .before .before .before .before .loop-test .taken), s .pre .0)
 
 enter-requires : tie.Need-enter-requires Inv-loop μ-loop
 enter-requires c κs =
-    let s = c .before .before .before .before .before .before .before .before .before .before .before .before in
-    let l = c .before .before .before .before .loop in
-    (l .inv .many, omega (arith, at-two (s .args .file .now) (l .table) (l .at) (l .k) (l .len) (l .inv) (s .pre .0) (c .before .before .before .loop-test .taken), s .pre .0), omega (arith, at-two (s .args .file .now) (l .table) (l .at) (l .k) (l .len) (l .inv) (s .pre .0) (c .before .before .before .loop-test .taken), s .pre .0, l .inv .early))
+    let s = c .before .before .before .before .before .before .before .before .before .before .before .before .before in
+    let l = c .before .before .before .before .before .loop in
+    (l .inv .many, omega (arith, at-two (s .args .file .now) (l .table) (l .at) (l .k) (l .len) (l .inv) (s .pre .0) (c .before .before .before .before .loop-test .taken), s .pre .0), omega (arith, at-two (s .args .file .now) (l .table) (l .at) (l .k) (l .len) (l .inv) (s .pre .0) (c .before .before .before .before .loop-test .taken), s .pre .0, l .inv .early))
 
 brings-requires : tie.Need-brings-requires Inv-loop μ-loop
 brings-requires c κs = search needs
 
-add-k : tie.Need-add-k Inv-loop μ-loop
-add-k c =
-    let s = c .before .before .before .before .before .before .before .before .before .before .before .before .before .before .before .before in
-    let l = c .before .before .before .before .before .before .before .before .loop in
-    omega (arith, at-len (s .args .file .now) (l .table) (l .at) (l .k) (l .len) (l .inv) (s .pre .0) (c .before .before .before .before .before .before .before .loop-test .taken), brings-long (s .args .file .now) (l .table) (l .at) (l .k) (l .len) (l .inv) (s .pre .0) (c .before .before .before .before .before .before .before .loop-test .taken), s .pre .0, c .brings .ensures, l .inv .early)
+add-k-2 : tie.Need-add-k-2 Inv-loop μ-loop
+add-k-2 c =
+    let s = c .before .before .before .before .before .before .before .before .before .before .before .before .before .before .before .before .before in
+    let l = c .before .before .before .before .before .before .before .before .before .loop in
+    omega (arith, at-len (s .args .file .now) (l .table) (l .at) (l .k) (l .len) (l .inv) (s .pre .0) (c .before .before .before .before .before .before .before .before .loop-test .taken), brings-long (s .args .file .now) (l .table) (l .at) (l .k) (l .len) (l .inv) (s .pre .0) (c .before .before .before .before .before .before .before .before .loop-test .taken), s .pre .0, c .brings .ensures, l .inv .early)
 
-add-at : tie.Need-add-at Inv-loop μ-loop
-add-at c =
-    let s = c .before .before .before .before .before .before .before .before .before .before .before .before .before .before .before .before in
-    let l = c .before .before .before .before .before .before .before .before .loop in
-    omega (arith, at-len (s .args .file .now) (l .table) (l .at) (l .k) (l .len) (l .inv) (s .pre .0) (c .before .before .before .before .before .before .before .loop-test .taken), s .pre .0)
+add-at-2 : tie.Need-add-at-2 Inv-loop μ-loop
+add-at-2 c =
+    let s = c .before .before .before .before .before .before .before .before .before .before .before .before .before .before .before .before .before in
+    let l = c .before .before .before .before .before .before .before .before .before .loop in
+    omega (arith, at-len (s .args .file .now) (l .table) (l .at) (l .k) (l .len) (l .inv) (s .pre .0) (c .before .before .before .before .before .before .before .before .loop-test .taken), s .pre .0)
 
 onward-requires-2 : tie.Need-onward-requires-2 Inv-loop μ-loop
 onward-requires-2 c κs = search needs
 
 loop-less : tie.Need-loop-less Inv-loop μ-loop
 loop-less c =
-    let s = c .before .before .before .before .before .before .before .before .before .before .before .before .before .before .before .before .before in
-    let l = c .before .before .before .before .before .before .before .before .before .loop in
-    omega (arith, at-two (s .args .file .now) (l .table) (l .at) (l .k) (l .len) (l .inv) (s .pre .0) (c .before .before .before .before .before .before .before .before .loop-test .taken), at-len (s .args .file .now) (l .table) (l .at) (l .k) (l .len) (l .inv) (s .pre .0) (c .before .before .before .before .before .before .before .before .loop-test .taken), s .pre .0, c .before .before .before .before .before .before .before .before .loop-test .taken)
+    let s = c .before .before .before .before .before .before .before .before .before .before .before .before in
+    let l = c .before .before .before .before .loop in
+    let z = at-two (s .args .file .now) (l .table) (l .at) (l .k) (l .len) (l .inv) (s .pre .0) (c .before .before .before .loop-test .taken) in
+    let h = at-len (s .args .file .now) (l .table) (l .at) (l .k) (l .len) (l .inv) (s .pre .0) (c .before .before .before .loop-test .taken) in
+    ⊎-elim (λ w. omega (arith, z, w .2)) (λ w. omega (arith, z, h, w .8, c .before .before .before .loop-test .taken)) (c .before .if1 .came)
 
 loop-again : tie.Need-loop-again Inv-loop μ-loop
 loop-again c =
-    let s = c .before .before .before .before .before .before .before .before .before .before .before .before .before .before .before .before .before in
-    let l = c .before .before .before .before .before .before .before .before .before .loop in
-    indexing-on (s .args .file .now) (l .table) (l .at) (l .k) (l .len) (l .inv) (s .pre .0) (c .before .before .before .before .before .before .before .before .loop-test .taken) (omega (arith, c .before .before .before .before .before .shared-slice-known3 .given (l .at + 1)))
-    _ (c .before .brings .result) (c .onward2 .result) (c .before .before .before .before .enter .ensures) (c .before .brings .ensures) (c .onward2 .ensures)
+    let s = c .before .before .before .before .before .before .before .before .before .before .before .before in
+    let l = c .before .before .before .before .loop in
+    let low : getD (s .args .file .now) (l .at + 1) 0 < 256 = omega (arith, c .before .before .shared-slice-known2 .given (l .at + 1)) in
+    ⊎-elim
+    (λ w.
+    let z = operand-long (s .args .file .now) (l .table) (l .at) (l .k) (l .len) (l .inv) (s .pre .0) (c .before .before .before .loop-test .taken) (w .0 .taken) in
+    indexing-by (s .args .file .now) (l .table) (l .at) (l .k) (l .len) (l .inv) (s .pre .0) (c .before .before .before .loop-test .taken) low _ 1 _ _ _ (w .1 ∙ operand-table (s .args .file .now) (l .table) (l .at) (l .k) (l .len) (l .inv) (s .pre .0) (c .before .before .before .loop-test .taken) (w .0 .taken) _ _) (operand-brings (s .args .file .now) (l .table) (l .at) (l .k) (l .len) (l .inv) (s .pre .0) (c .before .before .before .loop-test .taken) (w .0 .taken)) (omega (arith, w .2, z)) (w .3) (c .onward2 .ensures))
+    (λ w. indexing-by (s .args .file .now) (l .table) (l .at) (l .k) (l .len) (l .inv) (s .pre .0) (c .before .before .before .loop-test .taken) low _ (w .6 .result) _ _ _ (w .7 ∙ w .3 .ensures) (w .6 .ensures) (w .8) (w .9) (c .onward2 .ensures))
+    (c .before .if1 .came)
 
 same-length : tie.Need-same-length Inv-loop μ-loop
 same-length c =
@@ -108,13 +129,15 @@ index-functions-spec =
     onward-requires
     loop-holds
     shared-slice-read-kind
+    add-k
+    add-at
     add-enter
     shared-slice-read-enter
     add-enter-2
     enter-requires
     brings-requires
-    add-k
-    add-at
+    add-k-2
+    add-at-2
     onward-requires-2
     loop-less
     loop-again

@@ -1,0 +1,215 @@
+-- The walk over the storage records of a file. The storages still ahead, placed from the state that the words stand for, come to what all of them come to from
+-- the start; a turn takes the record at the front, and at the end none is ahead.
+use mathlib.Core.Path.{_≡_, refl, sym, ap, _∙_, subst}
+use mathlib.Core.Bool.{true, false}
+use mathlib.Core.List.{List, [], _∷_, map}
+use Prim.Native.Nat.{ℕ, zero, suc, _+_, _*_, _≤_, _<_}
+use native.Mathlib.Omega.{arith}
+use native.Mathlib.Nat.{not-suc-le-zero}
+use lib.ListN.{length, take, drop, set}
+use lib.Seq.{drop-drop}
+use Rattle.rows.specs.Row.{memberAt}
+use Rattle.records.specs.Pick.{pick-yes, pick-no, All}
+use Rattle.records.specs.Edition.{one}
+use Rattle.records.specs.Outcome.{laid}
+use Rattle.records.specs.Record as R
+use Rattle.records.specs.declared.Refusal.{Refusal}
+use Rattle.storages.specs.declared.Placement.{Placement}
+use Rattle.storages.specs.declared.Storage.{Storage}
+use Rattle.storages.specs.Storage.{stored}
+use Rattle.storages.specs.File.{opensStorage, storagesBy, declared}
+use Rattle.storages.proofs.Declared.{opens-inside}
+use Rattle.slots.specs.declared.Slot.{Slot}
+use Rattle.slots.specs.declared.Slots.{Slots}
+use Rattle.slots.specs.Slots.{opened}
+use Rattle.allocator.specs.declared.turn.Verdict.{Verdict}
+use Rattle.allocator.specs.declared.turn.Verdict.the-variants.{Placed, Opened, Refused}
+use Rattle.allocator.specs.declared.all.Allocated.the-variants as allocated
+use Rattle.allocator.specs.Legal.{FixedSmall}
+use Rattle.allocator.specs.Place.{Given, State, Outcome, done, refused, step, placeFrom, recordsOf}
+use Rattle.allocator.specs.Held.{Tells, Held, slotsAfter, TurnedBy, Allocates, Fit}
+use Rattle.allocator.proofs.Turns.{place-next, place-refused}
+use Rattle.allocator.proofs.Fitting.{fits-small}
+
+-- Nothing is placed yet in these maps.
+abbrev pub begun : List ℕ → List ℕ → State
+begun app wrk = record { maps = record { app = app; wrk = wrk }; slots = []; placed = [] }
+
+-- What is given, as the words themselves tell it.
+abbrev told : List ℕ → List ℕ → ℕ → Given
+told graph copies hi = record { meets = λ i j. memberAt graph (i * 4) j; copies = λ i j. memberAt copies (i * 4) j; lo = 0; hi = hi }
+
+told-tells : (graph copies : List ℕ) (hi : ℕ) → Tells (told graph copies hi) graph copies
+told-tells graph copies hi = record { meeting = λ i j a b. refl; copying = λ i j a b. refl }
+
+-- The loop's invariant: the arrays keep their lengths, every record ahead fits and there is an entry for it, and placing comes to the same from here.
+pub record Going (file graph copies app₀ wrk₀ app wrk : List ℕ) (slots : Slots) (ids owners numbers out : List ℕ) (at i : ℕ) : Type 0 where
+  pub inside : at ≤ length file
+  pub app-long : length app ≡ length app₀
+  pub wrk-long : length wrk ≡ length wrk₀
+  pub ids-long : length ids ≡ 256
+  pub owners-long : length owners ≡ 256
+  pub numbers-long : length numbers ≡ 256
+  pub out-long : length out ≡ 2048
+  pub fuel : ℕ
+  pub enough : length file ≤ at + fuel
+  pub fits : All (λ x. R.storageFits one x ≡ true) (storagesBy fuel (drop at file))
+  pub few : i + length (storagesBy fuel (drop at file)) ≤ 256
+  pub held : (g : Given) → Tells g graph copies → g .lo ≡ 0 → g .hi ≡ length app₀
+      → (x : State) × Held x app wrk slots ids owners numbers out i
+      × (placeFrom g (map stored (storagesBy fuel (drop at file))) x ≡ placeFrom g (map stored (declared file)) (begun app₀ wrk₀))
+
+-- ---- The start
+
+pub clear-long : (out : List ℕ) → out ≡ laid 2048 [] [] → length out ≡ 2048
+unfolding laid
+clear-long out e = ap length e
+
+module _ (file graph copies app wrk : List ℕ) (slots : Slots) (ids owners numbers out : List ℕ) where
+  begun-held : slots .n ≡ 0 → out ≡ laid 2048 [] [] → Held (begun app wrk) app wrk slots ids owners numbers out 0
+  unfolding recordsOf
+  begun-held n e = record {
+    app-is = refl;
+    wrk-is = refl;
+    kept = record {
+      many = n;
+      slots-are = ap (λ (k : ℕ). take k (slots .list)) n;
+      count = refl;
+      ids-are = refl;
+      owners-are = refl;
+      numbers-are = refl;
+      numbered = record { members = λ j l. absurd (not-suc-le-zero l); numbers = tt };
+      owned = tt;
+      low = λ j l. absurd (not-suc-le-zero l);
+      few = omega arith;
+    };
+    out-is = e;
+  }
+
+  pub going-start : 7 ≤ length file → Fit file → length ids ≡ 256 → length owners ≡ 256 → length numbers ≡ 256 → slots .n ≡ 0 → out ≡ laid 2048 [] []
+      → Going file graph copies app wrk app wrk slots ids owners numbers out 7 0
+  unfolding declared
+  going-start h fit li lw ln n e = record {
+    inside = h;
+    app-long = refl;
+    wrk-long = refl;
+    ids-long = li;
+    owners-long = lw;
+    numbers-long = ln;
+    out-long = clear-long out e;
+    fuel = length file;
+    enough = omega arith;
+    fits = fit .each;
+    few = omega (arith, fit .most);
+    held = λ g t lo hi. (begun app wrk, begun-held n e, refl);
+  }
+
+-- ---- The slots after a turn
+
+-- The storage was placed.
+abbrev Went : Verdict → Type 0
+Went Placed = Unit {0}
+Went (Opened p) = Unit {0}
+Went (Refused r) = ⊥
+
+module _ (slots : Slots) (z : Storage) (v : Verdict) (slots′ : Slots) where
+  abbrev pub Follows : Type 0
+  Follows = Went v × (slots′ ≡ slotsAfter slots z v)
+
+  pub placed-follows : v ≡ Placed → slots′ ≡ slots → Follows
+  placed-follows e q = (subst Went (sym e) tt, q ∙ sym (ap (slotsAfter slots z) e))
+
+  -- The slot that the storage opened is the one that was appended.
+  pub opened-follows : (p : Placement) (y : Slot) (more : Slots) → v ≡ Opened p → y ≡ opened z p → more .n ≡ slots .n + 1
+      → more .list ≡ set (slots .list) (slots .n) y → slots′ ≡ more → Follows
+  opened-follows p y more e b n l q =
+      let same : more ≡ slotsAfter slots z (Opened p) = (λ j. record { list = (l ∙ ap (set (slots .list) (slots .n)) b) j; n = n j }) in
+      (subst Went (sym e) tt, q ∙ same ∙ sym (ap (slotsAfter slots z) e))
+
+-- ---- The record at the front
+
+-- Of the storages ahead the one at the front is taken.
+front-cons : (file : List ℕ) (at fuel : ℕ) → at ≤ length file → length file ≤ at + fuel → opensStorage (drop at file) ≡ true
+    → (k : ℕ) × (length file ≤ at + 16 + k) × (storagesBy fuel (drop at file) ≡ R.storageIn (drop at file) ∷ storagesBy k (drop (at + 16) file))
+unfolding storagesBy
+front-cons file at zero h e o = absurd (omega (arith, opens-inside file at h o))
+front-cons file at (suc k) h e o =
+    (k, omega arith, pick-yes (opensStorage (drop at file)) _ _ o ∙ ap (λ (t : List ℕ). R.storageIn (drop at file) ∷ storagesBy k t) (drop-drop 16 at file))
+
+module _ {file graph copies app₀ wrk₀ app wrk : List ℕ} {slots : Slots} {ids owners numbers out : List ℕ} {at i : ℕ}
+    (s : Going file graph copies app₀ wrk₀ app wrk slots ids owners numbers out at i) where
+  -- The words stand for a state, since they tell what is given themselves.
+  pub going-held : (x : State) × Held x app wrk slots ids owners numbers out i
+  going-held = let h = s .held (told graph copies (length app₀)) (told-tells graph copies (length app₀)) refl refl in (h .0, h .1)
+
+  module _ (t : List ℕ) (z : Storage) (et : t ≡ drop at file) (ez : z ≡ stored (R.storageIn t)) (o : opensStorage (drop at file) ≡ true) where
+    front-is : z ≡ stored (R.storageIn (drop at file))
+    front-is = ez ∙ ap (λ (u : List ℕ). stored (R.storageIn u)) et
+
+    pub front-fits : (i < 256) × (z .id < 256) × FixedSmall (z .len) (z .fixed)
+    front-fits =
+        let k = front-cons file at (s .fuel) (s .inside) (s .enough) o in
+        let f = fits-small (R.storageIn (drop at file)) (subst (All (λ x. R.storageFits one x ≡ true)) (k .2) (s .fits) .0) in
+        let low : z .id < 256 = subst (λ (y : Storage). y .id < 256) (sym front-is) (f .0) in
+        let small : FixedSmall (z .len) (z .fixed) = subst (λ (y : Storage). FixedSmall (y .len) (y .fixed)) (sym front-is) (f .1) in
+        (omega (arith, s .few, ap length (k .2)), low, small)
+
+    module _ (v : Verdict) (app′ wrk′ ids′ owners′ numbers′ out′ : List ℕ)
+        (turn : (g : Given) (x : State) → Tells g graph copies → g .lo ≡ 0 → g .hi ≡ length app → Held x app wrk slots ids owners numbers out i
+        → TurnedBy (step g z x) v app′ wrk′ (slotsAfter slots z v) ids′ owners′ numbers′ out′ (i + 1)) where
+      pub going-refused : (r : Refusal) → v ≡ Refused r → (g : Given) → Tells g graph copies → g .lo ≡ 0 → g .hi ≡ length app₀
+          → placeFrom g (map stored (declared file)) (begun app₀ wrk₀) ≡ refused r
+      going-refused r e g t lo hi =
+          let k = front-cons file at (s .fuel) (s .inside) (s .enough) o in
+          let h = s .held g t lo hi in
+          let q = subst (λ (u : Verdict). TurnedBy (step g z (h .0)) u app′ wrk′ (slotsAfter slots z u) ids′ owners′ numbers′ out′ (i + 1)) e (turn g (h .0) t lo (hi ∙ sym (s .app-long)) (h .1)) in
+          sym (h .2) ∙ ap (λ (ss : List R.Storage). placeFrom g (map stored ss) (h .0)) (k .2)
+          ∙ place-refused g (stored (R.storageIn (drop at file))) _ (h .0) r (ap (λ (y : Storage). step g y (h .0)) (sym front-is) ∙ q)
+
+      -- A storage that was placed leaves a state, and the slots that follow stand for that state's.
+      leaves : (slots′ : Slots) → Follows slots z v slots′ → (u : Outcome) → TurnedBy u v app′ wrk′ (slotsAfter slots z v) ids′ owners′ numbers′ out′ (i + 1)
+          → (y : State) × (u ≡ done y) × Held y app′ wrk′ slots′ ids′ owners′ numbers′ out′ (i + 1)
+      leaves slots′ f u d = go v (f .0) (subst (λ (b : Slots). TurnedBy u v app′ wrk′ b ids′ owners′ numbers′ out′ (i + 1)) (sym (f .1)) d)
+        where
+          go : (w : Verdict) → Went w → TurnedBy u w app′ wrk′ slots′ ids′ owners′ numbers′ out′ (i + 1)
+              → (y : State) × (u ≡ done y) × Held y app′ wrk′ slots′ ids′ owners′ numbers′ out′ (i + 1)
+          go Placed k e = e
+          go (Opened p) k e = e
+
+      pub going-on : (slots′ : Slots) → Follows slots z v slots′ → length app′ ≡ length app → length wrk′ ≡ length wrk → length ids′ ≡ length ids
+          → length owners′ ≡ length owners → length numbers′ ≡ length numbers → length out′ ≡ length out
+          → Going file graph copies app₀ wrk₀ app′ wrk′ slots′ ids′ owners′ numbers′ out′ (at + 16) (i + 1)
+      going-on slots′ f la lw li lr ln lo =
+          let k = front-cons file at (s .fuel) (s .inside) (s .enough) o in
+          record {
+            inside = opens-inside file at (s .inside) o;
+            app-long = la ∙ s .app-long;
+            wrk-long = lw ∙ s .wrk-long;
+            ids-long = li ∙ s .ids-long;
+            owners-long = lr ∙ s .owners-long;
+            numbers-long = ln ∙ s .numbers-long;
+            out-long = lo ∙ s .out-long;
+            fuel = k .0;
+            enough = k .1;
+            fits = subst (All (λ x. R.storageFits one x ≡ true)) (k .2) (s .fits) .1;
+            few = omega (arith, s .few, ap length (k .2));
+            held = λ g t l r.
+                let h = s .held g t l r in
+                let q = leaves slots′ f (step g z (h .0)) (turn g (h .0) t l (r ∙ sym (s .app-long)) (h .1)) in
+                let same : placeFrom g (map stored (storagesBy (k .0) (drop (at + 16) file))) (q .0) ≡ placeFrom g (map stored (declared file)) (begun app₀ wrk₀) =
+                sym (place-next g (stored (R.storageIn (drop at file))) _ (h .0) (q .0) (ap (λ (y : Storage). step g y (h .0)) (sym front-is) ∙ q .1))
+                ∙ sym (ap (λ (ss : List R.Storage). placeFrom g (map stored ss) (h .0)) (k .2)) ∙ h .2 in
+                (q .0, q .2, same);
+          }
+
+  -- ---- The end
+
+  pub going-end : opensStorage (drop at file) ≡ false → (g : Given) → Tells g graph copies → g .lo ≡ 0 → g .hi ≡ length app₀
+      → Allocates (placeFrom g (map stored (declared file)) (begun app₀ wrk₀)) (allocated.Done i (slots .n)) out
+  unfolding storagesBy placeFrom
+  going-end o g t lo hi = let h = s .held g t lo hi in
+      (h .0, sym (h .2) ∙ none (h .0) (s .fuel), h .1 .kept .count, h .1 .kept .many, h .1 .out-is)
+    where
+      none : (x : State) (k : ℕ) → placeFrom g (map stored (storagesBy k (drop at file))) x ≡ done x
+      none x zero = refl
+      none x (suc k) = ap (λ (ss : List R.Storage). placeFrom g (map stored ss) x) (pick-no (opensStorage (drop at file)) _ _ o)

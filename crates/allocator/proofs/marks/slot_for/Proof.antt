@@ -1,0 +1,100 @@
+-- `slot_for` meets its contract: of the marked rows the two searches answer the definition's two parts, and the first finds none where no slot is marked.
+-- Assumes nothing.
+use mathlib.Core.Path.{sym, _∙_}
+use mathlib.Core.Logic.{⊎-elim}
+use native.Mathlib.Omega.{arith}
+use borrow.Author.Needs.{needs}
+use borrow.Author.Tests.{not-true, not-false}
+use Rattle.allocator.proofs.Seeking.{unmarked-none, seek-none, seek-copied, seek-fitting}
+use Rattle.allocator.proofs.marks.slot_for.Statement.{statement}
+use Rattle.allocator.proofs.marks.slot_for.Tie as tie
+
+tries-slots-requires : tie.Need-tries-slots-requires
+tries-slots-requires c κs = search needs
+
+returns : tie.Need-returns
+returns c = λ g x t k. seek-none g _ x _ _ _ _ _ _ _ t k (sym (c .before .tries-slots .ensures) ∙ not-true _ (c .if1 .taken))
+
+cast-mark : tie.Need-cast-mark
+cast-mark c = search needs
+
+slice-aggregate-mark : tie.Need-slice-aggregate-mark
+slice-aggregate-mark c = search needs
+
+slice-aggregate-mark-2 : tie.Need-slice-aggregate-mark-2
+slice-aggregate-mark-2 c = search needs
+
+mark-requires : tie.Need-mark-requires
+mark-requires c κs = search needs
+
+slice-aggregate-any-marked : tie.Need-slice-aggregate-any-marked
+slice-aggregate-any-marked c = search needs
+
+any-marked-requires : tie.Need-any-marked-requires
+any-marked-requires c κs = search needs
+
+slice-aggregate-search : tie.Need-slice-aggregate-search
+slice-aggregate-search c = search needs
+
+slice-aggregate-search-2 : tie.Need-slice-aggregate-search-2
+slice-aggregate-search-2 c = search needs
+
+search-requires : tie.Need-search-requires
+search-requires c κs = search needs
+
+returns-2 : tie.Need-returns-2
+returns-2 c =
+    let f = c .before .before in
+    let m = f .before .before .before .before .before .before .before .before in
+    let e = m .before .before .before .before in
+    let start = e .before .before .before .before .before .before .before in
+    let shares = sym (e .before .tries-slots .ensures) ∙ not-false _ (e .if1 .left) in
+    λ g x t k. seek-copied g _ x _ _ _ _ _ _ _ t k _ _ (m .mark .ensures) (start .pre .1) (start .pre .0) _ shares (f .search .ensures) (c .if3 .taken)
+
+slice-aggregate-search-3 : tie.Need-slice-aggregate-search-3
+slice-aggregate-search-3 c = search needs
+
+slice-aggregate-search-4 : tie.Need-slice-aggregate-search-4
+slice-aggregate-search-4 c = search needs
+
+search-requires-2 : tie.Need-search-requires-2
+search-requires-2 c κs = search needs
+
+returns-3 : tie.Need-returns-3
+returns-3 c =
+    let o = c .before .before .before in
+    let a = o .before in
+    let m = a .before .before .before .before in
+    let e = m .before .before .before .before in
+    let start = e .before .before .before .before .before .before .before in
+    let shares = sym (e .before .tries-slots .ensures) ∙ not-false _ (e .if1 .left) in
+    λ g x t k.
+    ⊎-elim
+    (λ w.
+    seek-fitting g _ x _ _ _ _ _ _ _ t k _ _ (m .mark .ensures) (start .pre .1) (start .pre .0) _ shares (w .3 .ensures) (w .5 .left) _
+    (c .search2 .ensures))
+    (λ w.
+    seek-fitting g _ x _ _ _ _ _ _ _ t k _ _ (m .mark .ensures) (start .pre .1) (start .pre .0) _ shares
+    (unmarked-none _ _ _ _ _ (sym (a .any-marked .ensures) ∙ w .left)) (omega arith) _ (c .search2 .ensures))
+    (o .if2 .came)
+
+pub slot-for-spec : {M : Type 1} → statement M
+slot-for-spec =
+    tie.close
+    (tie.spec
+    tries-slots-requires
+    returns
+    cast-mark
+    slice-aggregate-mark
+    slice-aggregate-mark-2
+    mark-requires
+    slice-aggregate-any-marked
+    any-marked-requires
+    slice-aggregate-search
+    slice-aggregate-search-2
+    search-requires
+    returns-2
+    slice-aggregate-search-3
+    slice-aggregate-search-4
+    search-requires-2
+    returns-3)

@@ -1,0 +1,5 @@
+pub mod Memory
+pub mod Place
+pub mod Legal
+pub mod Held
+pub mod Placing

@@ -1,0 +1,3 @@
+pub mod Laws
+pub mod Below
+pub mod Bytes

@@ -1,0 +1,4 @@
+pub mod Placement
+pub mod Storage
+pub mod Room
+pub mod File
