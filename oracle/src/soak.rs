@@ -4,6 +4,7 @@
 use std::fmt;
 use std::time::{Duration, Instant};
 
+use crate::analysis::Asked;
 use crate::difference::Difference;
 use crate::entry::Library;
 use crate::original::answers::Judged;
@@ -15,6 +16,8 @@ use crate::{analysis, compare, generate};
 const FILES_PER_SEED: u64 = 1_000;
 /// A difference is made smaller for this long at most.
 const SHRINKING: Duration = Duration::from_secs(300);
+/// The queries are asked at about so many steps of a file, and at as many places without one, so that a run gets through more files.
+const PLACES: usize = 6;
 /// How often a long run says how far it is.
 const REPORT: Duration = Duration::from_secs(60);
 
@@ -36,7 +39,7 @@ const COMPARISONS: [Comparison; 3] = [
         Some(checker) => compare::compare_file(checker, file),
         None => Ok(()),
     },
-    analysis::compare_judged,
+    |library, file, judged| analysis::compare_judged(library, file, judged, Asked::About(PLACES)),
     |library, file, judged| match library.place {
         Some(placer) => place::compare_judged(placer, file, judged),
         None => Ok(()),

@@ -28,8 +28,9 @@ use Rattle.graph.specs.Graph.{interferes, copied}
 use Rattle.graph.specs.Graphs as G
 use Rattle.graph.specs.declared.Graphed.{Graphed}
 use Rattle.graph.specs.declared.Graphed.the-variants as graphed
-use Rattle.allocator.specs.Place.{Given, Outcome, done, refused, place, recordsOf}
-use Rattle.allocator.specs.Held.{Tells, Fit, Allocates}
+use Rattle.places.specs.Place.{Given, Outcome, done, refused, place, recordsOf}
+use Rattle.turns.specs.Held.{Tells}
+use Rattle.allocator.specs.All.{Fit, Allocates}
 use Rattle.allocator.specs.Placing.{Lent, given, placing, placedBy, placedAfter, placedFrom, placed, Places, PlacesIn, Analysed, PlacesOn}
 use Rattle.allocator.specs.declared.Placing.{Placing}
 use Rattle.allocator.specs.declared.Placing.the-variants.{Done, Refused}

@@ -23,15 +23,15 @@ use Rattle.maps.specs.declared.Found.{Found}
 use Rattle.maps.specs.declared.Found.the-variants.{Nothing, At}
 use Rattle.maps.specs.declared.FoundBit.the-variants.{NoBit}
 use Rattle.maps.proofs.Laws.{FirstWindow, clear-in, LowClear, low-clear, HighBit}
-use Rattle.allocator.specs.declared.choose.Chosen.{Chosen}
-use Rattle.allocator.specs.declared.choose.Chosen.the-variants.{Spot, Refused}
-use Rattle.allocator.specs.Memory.{Maps, mapOf, fresh}
-use Rattle.allocator.specs.Place.{Given, slotFor, choose, Placed, State, Outcome, done, refused, takeRoom, stepBy, step, start, place}
-use Rattle.allocator.specs.Legal.{FixedSmall}
-use Rattle.allocator.proofs.Tests.{T-yes, T-no, T-false, or-cases, any-left, any-last}
-use Rattle.allocator.proofs.Rooms.{held, reserve-only}
-use Rattle.allocator.proofs.Turns.{After, steps-keep}
-use Rattle.allocator.proofs.Choosing.{Good, Sits, choose-sits}
+use Rattle.places.specs.declared.choose.Chosen.{Chosen}
+use Rattle.places.specs.declared.choose.Chosen.the-variants.{Spot, Refused}
+use Rattle.places.specs.Memory.{Maps, mapOf, fresh}
+use Rattle.places.specs.Place.{Given, slotFor, choose, Placed, State, Outcome, done, refused, takeRoom, stepBy, step, start, place}
+use Rattle.places.specs.Legal.{FixedSmall}
+use Rattle.places.proofs.Tests.{T-yes, T-no, T-false, or-cases, any-left, any-last}
+use Rattle.places.proofs.Rooms.{held, reserve-only}
+use Rattle.turns.proofs.Turns.{After, steps-keep}
+use Rattle.places.proofs.Choosing.{Good, Sits, choose-sits}
 use Rattle.allocator.proofs.Keeping.{roomOf, Covers, Keeps, start-keeps}
 use Rattle.allocator.proofs.Taking.{step-keeps}
 

@@ -18,9 +18,9 @@ use Rattle.storages.specs.Placement.{fixedAt}
 use Rattle.storages.specs.Storage.{stored}
 use Rattle.maps.specs.Maps.{fill}
 use Rattle.maps.proofs.Laws.{fill-length}
-use Rattle.allocator.specs.Memory.{fresh}
-use Rattle.allocator.specs.Legal.{FixedSmall}
-use Rattle.allocator.specs.Place.{Given, placeFrom, place}
+use Rattle.places.specs.Memory.{fresh}
+use Rattle.places.specs.Legal.{FixedSmall}
+use Rattle.places.specs.Place.{Given, placeFrom, place}
 
 -- ---- Storages
 

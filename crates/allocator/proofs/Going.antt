@@ -6,7 +6,7 @@ use mathlib.Core.List.{List, [], _∷_, map}
 use Prim.Native.Nat.{ℕ, zero, suc, _+_, _*_, _≤_, _<_}
 use native.Mathlib.Omega.{arith}
 use native.Mathlib.Nat.{not-suc-le-zero}
-use lib.ListN.{length, take, drop, set}
+use lib.ListN.{length, drop, set}
 use lib.Seq.{drop-drop}
 use Rattle.rows.specs.Row.{memberAt}
 use Rattle.records.specs.Pick.{pick-yes, pick-no, All}
@@ -20,15 +20,15 @@ use Rattle.storages.specs.Storage.{stored}
 use Rattle.storages.specs.File.{opensStorage, storagesBy, declared}
 use Rattle.storages.proofs.Declared.{opens-inside}
 use Rattle.slots.specs.declared.Slot.{Slot}
-use Rattle.slots.specs.declared.Slots.{Slots}
 use Rattle.slots.specs.Slots.{opened}
-use Rattle.allocator.specs.declared.turn.Verdict.{Verdict}
-use Rattle.allocator.specs.declared.turn.Verdict.the-variants.{Placed, Opened, Refused}
+use Rattle.turns.specs.declared.turn.Verdict.{Verdict}
+use Rattle.turns.specs.declared.turn.Verdict.the-variants.{Placed, Opened, Refused}
 use Rattle.allocator.specs.declared.all.Allocated.the-variants as allocated
-use Rattle.allocator.specs.Legal.{FixedSmall}
-use Rattle.allocator.specs.Place.{Given, State, Outcome, done, refused, step, placeFrom, recordsOf}
-use Rattle.allocator.specs.Held.{Tells, Held, slotsAfter, TurnedBy, Allocates, Fit}
-use Rattle.allocator.proofs.Turns.{place-next, place-refused}
+use Rattle.places.specs.Legal.{FixedSmall}
+use Rattle.places.specs.Place.{Given, State, Outcome, done, refused, step, placeFrom, recordsOf}
+use Rattle.turns.specs.Held.{Tells, Held, listAfter, countAfter, TurnedBy}
+use Rattle.allocator.specs.All.{Allocates, Fit}
+use Rattle.turns.proofs.Turns.{place-next, place-refused}
 use Rattle.allocator.proofs.Fitting.{fits-small}
 
 -- Nothing is placed yet in these maps.
@@ -43,7 +43,7 @@ told-tells : (graph copies : List ℕ) (hi : ℕ) → Tells (told graph copies h
 told-tells graph copies hi = record { meeting = λ i j a b. refl; copying = λ i j a b. refl }
 
 -- The loop's invariant: the arrays keep their lengths, every record ahead fits and there is an entry for it, and placing comes to the same from here.
-pub record Going (file graph copies app₀ wrk₀ app wrk : List ℕ) (slots : Slots) (ids owners numbers out : List ℕ) (at i : ℕ) : Type 0 where
+pub record Going (file graph copies app₀ wrk₀ app wrk : List ℕ) (list : List Slot) (n : ℕ) (ids owners numbers out : List ℕ) (at i : ℕ) : Type 0 where
   pub inside : at ≤ length file
   pub app-long : length app ≡ length app₀
   pub wrk-long : length wrk ≡ length wrk₀
@@ -56,7 +56,7 @@ pub record Going (file graph copies app₀ wrk₀ app wrk : List ℕ) (slots : S
   pub fits : All (λ x. R.storageFits one x ≡ true) (storagesBy fuel (drop at file))
   pub few : i + length (storagesBy fuel (drop at file)) ≤ 256
   pub held : (g : Given) → Tells g graph copies → g .lo ≡ 0 → g .hi ≡ length app₀
-      → (x : State) × Held x app wrk slots ids owners numbers out i
+      → (x : State) × Held x app wrk list n ids owners numbers out i
       × (placeFrom g (map stored (storagesBy fuel (drop at file))) x ≡ placeFrom g (map stored (declared file)) (begun app₀ wrk₀))
 
 -- ---- The start
@@ -65,20 +65,20 @@ pub clear-long : (out : List ℕ) → out ≡ laid 2048 [] [] → length out ≡
 unfolding laid
 clear-long out e = ap length e
 
-module _ (file graph copies app wrk : List ℕ) (slots : Slots) (ids owners numbers out : List ℕ) where
-  begun-held : slots .n ≡ 0 → out ≡ laid 2048 [] [] → Held (begun app wrk) app wrk slots ids owners numbers out 0
+module _ (file graph copies app wrk : List ℕ) (list : List Slot) (ids owners numbers out : List ℕ) where
+  begun-held : out ≡ laid 2048 [] [] → Held (begun app wrk) app wrk list 0 ids owners numbers out 0
   unfolding recordsOf
-  begun-held n e = record {
+  begun-held e = record {
     app-is = refl;
     wrk-is = refl;
     kept = record {
-      many = n;
-      slots-are = ap (λ (k : ℕ). take k (slots .list)) n;
+      many = refl;
+      slots-are = refl;
       count = refl;
       ids-are = refl;
       owners-are = refl;
       numbers-are = refl;
-      numbered = record { members = λ j l. absurd (not-suc-le-zero l); numbers = tt };
+      numbered = record { members = λ j l. absurd (not-suc-le-zero l); filled = λ j l. absurd (not-suc-le-zero l); numbers = tt };
       owned = tt;
       low = λ j l. absurd (not-suc-le-zero l);
       few = omega arith;
@@ -86,10 +86,10 @@ module _ (file graph copies app wrk : List ℕ) (slots : Slots) (ids owners numb
     out-is = e;
   }
 
-  pub going-start : 7 ≤ length file → Fit file → length ids ≡ 256 → length owners ≡ 256 → length numbers ≡ 256 → slots .n ≡ 0 → out ≡ laid 2048 [] []
-      → Going file graph copies app wrk app wrk slots ids owners numbers out 7 0
+  pub going-start : 7 ≤ length file → Fit file → length ids ≡ 256 → length owners ≡ 256 → length numbers ≡ 256 → out ≡ laid 2048 [] []
+      → Going file graph copies app wrk app wrk list 0 ids owners numbers out 7 0
   unfolding declared
-  going-start h fit li lw ln n e = record {
+  going-start h fit li lw ln e = record {
     inside = h;
     app-long = refl;
     wrk-long = refl;
@@ -101,7 +101,7 @@ module _ (file graph copies app wrk : List ℕ) (slots : Slots) (ids owners numb
     enough = omega arith;
     fits = fit .each;
     few = omega (arith, fit .most);
-    held = λ g t lo hi. (begun app wrk, begun-held n e, refl);
+    held = λ g t lo hi. (begun app wrk, begun-held e, refl);
   }
 
 -- ---- The slots after a turn
@@ -112,19 +112,17 @@ Went Placed = Unit {0}
 Went (Opened p) = Unit {0}
 Went (Refused r) = ⊥
 
-module _ (slots : Slots) (z : Storage) (v : Verdict) (slots′ : Slots) where
+module _ (list : List Slot) (n : ℕ) (z : Storage) (v : Verdict) (list′ : List Slot) (n′ : ℕ) where
   abbrev pub Follows : Type 0
-  Follows = Went v × (slots′ ≡ slotsAfter slots z v)
+  Follows = Went v × (list′ ≡ listAfter list n z v) × (n′ ≡ countAfter n v)
 
-  pub placed-follows : v ≡ Placed → slots′ ≡ slots → Follows
-  placed-follows e q = (subst Went (sym e) tt, q ∙ sym (ap (slotsAfter slots z) e))
+  pub placed-follows : v ≡ Placed → list′ ≡ list → n′ ≡ n → Follows
+  placed-follows e q m = (subst Went (sym e) tt, q ∙ sym (ap (listAfter list n z) e), m ∙ sym (ap (countAfter n) e))
 
-  -- The slot that the storage opened is the one that was appended.
-  pub opened-follows : (p : Placement) (y : Slot) (more : Slots) → v ≡ Opened p → y ≡ opened z p → more .n ≡ slots .n + 1
-      → more .list ≡ set (slots .list) (slots .n) y → slots′ ≡ more → Follows
-  opened-follows p y more e b n l q =
-      let same : more ≡ slotsAfter slots z (Opened p) = (λ j. record { list = (l ∙ ap (set (slots .list) (slots .n)) b) j; n = n j }) in
-      (subst Went (sym e) tt, q ∙ same ∙ sym (ap (slotsAfter slots z) e))
+  -- The slot that the storage opened is the one that was put behind the others.
+  pub opened-follows : (p : Placement) (y : Slot) → v ≡ Opened p → y ≡ opened z p → list′ ≡ set list n y → n′ ≡ n + 1 → Follows
+  opened-follows p y e b q m =
+      (subst Went (sym e) tt, q ∙ ap (set list n) b ∙ sym (ap (listAfter list n z) e), m ∙ sym (ap (countAfter n) e))
 
 -- ---- The record at the front
 
@@ -136,10 +134,10 @@ front-cons file at zero h e o = absurd (omega (arith, opens-inside file at h o))
 front-cons file at (suc k) h e o =
     (k, omega arith, pick-yes (opensStorage (drop at file)) _ _ o ∙ ap (λ (t : List ℕ). R.storageIn (drop at file) ∷ storagesBy k t) (drop-drop 16 at file))
 
-module _ {file graph copies app₀ wrk₀ app wrk : List ℕ} {slots : Slots} {ids owners numbers out : List ℕ} {at i : ℕ}
-    (s : Going file graph copies app₀ wrk₀ app wrk slots ids owners numbers out at i) where
+module _ {file graph copies app₀ wrk₀ app wrk : List ℕ} {list : List Slot} {n : ℕ} {ids owners numbers out : List ℕ} {at i : ℕ}
+    (s : Going file graph copies app₀ wrk₀ app wrk list n ids owners numbers out at i) where
   -- The words stand for a state, since they tell what is given themselves.
-  pub going-held : (x : State) × Held x app wrk slots ids owners numbers out i
+  pub going-held : (x : State) × Held x app wrk list n ids owners numbers out i
   going-held = let h = s .held (told graph copies (length app₀)) (told-tells graph copies (length app₀)) refl refl in (h .0, h .1)
 
   module _ (t : List ℕ) (z : Storage) (et : t ≡ drop at file) (ez : z ≡ stored (R.storageIn t)) (o : opensStorage (drop at file) ≡ true) where
@@ -155,31 +153,31 @@ module _ {file graph copies app₀ wrk₀ app wrk : List ℕ} {slots : Slots} {i
         (omega (arith, s .few, ap length (k .2)), low, small)
 
     module _ (v : Verdict) (app′ wrk′ ids′ owners′ numbers′ out′ : List ℕ)
-        (turn : (g : Given) (x : State) → Tells g graph copies → g .lo ≡ 0 → g .hi ≡ length app → Held x app wrk slots ids owners numbers out i
-        → TurnedBy (step g z x) v app′ wrk′ (slotsAfter slots z v) ids′ owners′ numbers′ out′ (i + 1)) where
+        (turn : (g : Given) (x : State) → Tells g graph copies → g .lo ≡ 0 → g .hi ≡ length app → Held x app wrk list n ids owners numbers out i
+        → TurnedBy (step g z x) v app′ wrk′ (listAfter list n z v) (countAfter n v) ids′ owners′ numbers′ out′ (i + 1)) where
       pub going-refused : (r : Refusal) → v ≡ Refused r → (g : Given) → Tells g graph copies → g .lo ≡ 0 → g .hi ≡ length app₀
           → placeFrom g (map stored (declared file)) (begun app₀ wrk₀) ≡ refused r
       going-refused r e g t lo hi =
           let k = front-cons file at (s .fuel) (s .inside) (s .enough) o in
           let h = s .held g t lo hi in
-          let q = subst (λ (u : Verdict). TurnedBy (step g z (h .0)) u app′ wrk′ (slotsAfter slots z u) ids′ owners′ numbers′ out′ (i + 1)) e (turn g (h .0) t lo (hi ∙ sym (s .app-long)) (h .1)) in
+          let q = subst (λ (u : Verdict). TurnedBy (step g z (h .0)) u app′ wrk′ (listAfter list n z u) (countAfter n u) ids′ owners′ numbers′ out′ (i + 1)) e (turn g (h .0) t lo (hi ∙ sym (s .app-long)) (h .1)) in
           sym (h .2) ∙ ap (λ (ss : List R.Storage). placeFrom g (map stored ss) (h .0)) (k .2)
           ∙ place-refused g (stored (R.storageIn (drop at file))) _ (h .0) r (ap (λ (y : Storage). step g y (h .0)) (sym front-is) ∙ q)
 
       -- A storage that was placed leaves a state, and the slots that follow stand for that state's.
-      leaves : (slots′ : Slots) → Follows slots z v slots′ → (u : Outcome) → TurnedBy u v app′ wrk′ (slotsAfter slots z v) ids′ owners′ numbers′ out′ (i + 1)
-          → (y : State) × (u ≡ done y) × Held y app′ wrk′ slots′ ids′ owners′ numbers′ out′ (i + 1)
-      leaves slots′ f u d = go v (f .0) (subst (λ (b : Slots). TurnedBy u v app′ wrk′ b ids′ owners′ numbers′ out′ (i + 1)) (sym (f .1)) d)
+      leaves : (list′ : List Slot) (n′ : ℕ) → Follows list n z v list′ n′ → (u : Outcome) → TurnedBy u v app′ wrk′ (listAfter list n z v) (countAfter n v) ids′ owners′ numbers′ out′ (i + 1)
+          → (y : State) × (u ≡ done y) × Held y app′ wrk′ list′ n′ ids′ owners′ numbers′ out′ (i + 1)
+      leaves list′ n′ f u d = go v (f .0) (rw (f .1, f .2) d)
         where
-          go : (w : Verdict) → Went w → TurnedBy u w app′ wrk′ slots′ ids′ owners′ numbers′ out′ (i + 1)
-              → (y : State) × (u ≡ done y) × Held y app′ wrk′ slots′ ids′ owners′ numbers′ out′ (i + 1)
+          go : (w : Verdict) → Went w → TurnedBy u w app′ wrk′ list′ n′ ids′ owners′ numbers′ out′ (i + 1)
+              → (y : State) × (u ≡ done y) × Held y app′ wrk′ list′ n′ ids′ owners′ numbers′ out′ (i + 1)
           go Placed k e = e
           go (Opened p) k e = e
 
-      pub going-on : (slots′ : Slots) → Follows slots z v slots′ → length app′ ≡ length app → length wrk′ ≡ length wrk → length ids′ ≡ length ids
+      pub going-on : (list′ : List Slot) (n′ : ℕ) → Follows list n z v list′ n′ → length app′ ≡ length app → length wrk′ ≡ length wrk → length ids′ ≡ length ids
           → length owners′ ≡ length owners → length numbers′ ≡ length numbers → length out′ ≡ length out
-          → Going file graph copies app₀ wrk₀ app′ wrk′ slots′ ids′ owners′ numbers′ out′ (at + 16) (i + 1)
-      going-on slots′ f la lw li lr ln lo =
+          → Going file graph copies app₀ wrk₀ app′ wrk′ list′ n′ ids′ owners′ numbers′ out′ (at + 16) (i + 1)
+      going-on list′ n′ f la lw li lr ln lo =
           let k = front-cons file at (s .fuel) (s .inside) (s .enough) o in
           record {
             inside = opens-inside file at (s .inside) o;
@@ -195,7 +193,7 @@ module _ {file graph copies app₀ wrk₀ app wrk : List ℕ} {slots : Slots} {i
             few = omega (arith, s .few, ap length (k .2));
             held = λ g t l r.
                 let h = s .held g t l r in
-                let q = leaves slots′ f (step g z (h .0)) (turn g (h .0) t l (r ∙ sym (s .app-long)) (h .1)) in
+                let q = leaves list′ n′ f (step g z (h .0)) (turn g (h .0) t l (r ∙ sym (s .app-long)) (h .1)) in
                 let same : placeFrom g (map stored (storagesBy (k .0) (drop (at + 16) file))) (q .0) ≡ placeFrom g (map stored (declared file)) (begun app₀ wrk₀) =
                 sym (place-next g (stored (R.storageIn (drop at file))) _ (h .0) (q .0) (ap (λ (y : Storage). step g y (h .0)) (sym front-is) ∙ q .1))
                 ∙ sym (ap (λ (ss : List R.Storage). placeFrom g (map stored ss) (h .0)) (k .2)) ∙ h .2 in
@@ -205,7 +203,7 @@ module _ {file graph copies app₀ wrk₀ app wrk : List ℕ} {slots : Slots} {i
   -- ---- The end
 
   pub going-end : opensStorage (drop at file) ≡ false → (g : Given) → Tells g graph copies → g .lo ≡ 0 → g .hi ≡ length app₀
-      → Allocates (placeFrom g (map stored (declared file)) (begun app₀ wrk₀)) (allocated.Done i (slots .n)) out
+      → Allocates (placeFrom g (map stored (declared file)) (begun app₀ wrk₀)) (allocated.Done i n) out
   unfolding storagesBy placeFrom
   going-end o g t lo hi = let h = s .held g t lo hi in
       (h .0, sym (h .2) ∙ none (h .0) (s .fuel), h .1 .kept .count, h .1 .kept .many, h .1 .out-is)

@@ -19,12 +19,12 @@ use Rattle.storages.specs.Placement.{codeOf}
 use Rattle.storages.specs.Room.{room, within, touches}
 use Rattle.units.specs.Sets.{any}
 use Rattle.maps.specs.declared.Found.the-variants.{At}
-use Rattle.allocator.specs.Memory.{Maps}
-use Rattle.allocator.specs.Place.{Given, Opened, noOpened, joined, Placed, State, joinSlot, start}
-use Rattle.allocator.specs.Legal.{rightForm, LegalBy, Legal, Inside, OffLow, MayShare, Pairs, Fine}
-use Rattle.allocator.proofs.Tests.{any-left, any-last, any-none, all-snoc, all-map, pairs-snoc}
-use Rattle.allocator.proofs.Rooms.{held, fresh-app, fresh-wrk, fresh-low}
-use Rattle.allocator.proofs.Joining.{slotAt, Tries, Fits}
+use Rattle.places.specs.Memory.{Maps}
+use Rattle.places.specs.Place.{Given, Opened, noOpened, joined, Placed, State, joinSlot, start}
+use Rattle.places.specs.Legal.{rightForm, LegalBy, Legal, Inside, OffLow, MayShare, Pairs, Fine}
+use Rattle.places.proofs.Tests.{any-left, any-last, any-none, all-snoc, all-map, pairs-snoc}
+use Rattle.places.proofs.Rooms.{held, fresh-app, fresh-wrk, fresh-low}
+use Rattle.turns.proofs.Joining.{slotAt, Tries, Fits}
 
 abbrev pub roomOf : Placed → Room
 roomOf y = room (y .what .len) (y .spot)

@@ -20,12 +20,12 @@ use Rattle.storages.specs.declared.Space.the-variants.{App}
 use Rattle.storages.specs.Placement.{codeOf}
 use Rattle.storages.specs.Storage.{aByte, aCarry, isBit, bitCode, bytesCode, kindMatches}
 use Rattle.storages.specs.Room.{room, touches}
-use Rattle.allocator.specs.declared.choose.Chosen.{Chosen}
-use Rattle.allocator.specs.declared.choose.Chosen.the-variants.{Spot, Refused}
-use Rattle.allocator.specs.Place.{Given, Placed, State, Outcome, done, refused, takeRoom, step, andThen, placeFrom, start, place}
-use Rattle.allocator.specs.Legal.{rightForm, LegalBy, Legal, Inside, FixedSmall, Sharing, MayShare, Pairs, Fine}
-use Rattle.allocator.proofs.Tests.{or-cases, or-l, or-r, and-r, all-at, pairs-at}
-use Rattle.allocator.proofs.Turns.{After, step-cases}
+use Rattle.places.specs.declared.choose.Chosen.{Chosen}
+use Rattle.places.specs.declared.choose.Chosen.the-variants.{Spot, Refused}
+use Rattle.places.specs.Place.{Given, Placed, State, Outcome, done, refused, takeRoom, step, andThen, placeFrom, start, place}
+use Rattle.places.specs.Legal.{rightForm, LegalBy, Legal, Inside, FixedSmall, Sharing, MayShare, Pairs, Fine}
+use Rattle.places.proofs.Tests.{or-cases, or-l, or-r, and-r, all-at, pairs-at}
+use Rattle.turns.proofs.Turns.{After, step-cases}
 use Rattle.allocator.proofs.Keeping.{Keeps, start-keeps}
 use Rattle.allocator.proofs.Taking.{place-keeps}
 

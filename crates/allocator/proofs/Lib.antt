@@ -1,13 +1,3 @@
-pub mod Tests
-pub mod Rooms
-pub mod Joining
-pub mod Turns
-pub mod Numbering
-pub mod Choosing
-pub mod Marking
-pub mod Seeking
-pub mod Noting
-pub mod Turning
 pub mod Fitting
 pub mod Going
 pub mod Keeping
@@ -18,3 +8,4 @@ pub mod Refusals
 pub mod Telling
 pub mod Answering
 pub mod Promise
+pub mod Counts

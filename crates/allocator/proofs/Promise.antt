@@ -19,8 +19,8 @@ use Rattle.storages.specs.declared.Space.the-variants.{App}
 use Rattle.storages.specs.Storage.{stored}
 use Rattle.storages.specs.Room.{room, touches}
 use Rattle.graph.proofs.GraphLaws.{symmetric}
-use Rattle.allocator.specs.Place.{Given, Placed, State, done}
-use Rattle.allocator.specs.Legal.{Legal, Inside, FixedSmall, Sharing}
+use Rattle.places.specs.Place.{Given, Placed, State, done}
+use Rattle.places.specs.Legal.{Legal, Inside, FixedSmall, Sharing}
 use Rattle.allocator.specs.Placing.{given, placing}
 use Rattle.allocator.proofs.Fitting.{fits-small, header-low}
 use Rattle.allocator.proofs.Laws as L

@@ -24,13 +24,13 @@ use Rattle.maps.specs.declared.FoundBit.{FoundBit}
 use Rattle.maps.specs.declared.FoundBit.the-variants.{NoBit, BitAt}
 use Rattle.maps.specs.Maps.{firstWindow, highBit}
 use Rattle.maps.proofs.Laws.{FirstWindow, first-window, HighBit, high-bit}
-use Rattle.allocator.specs.declared.choose.Chosen.{Chosen}
-use Rattle.allocator.specs.declared.choose.Chosen.the-variants.{Spot, Refused}
-use Rattle.allocator.specs.Memory.{Maps, clearRoom}
-use Rattle.allocator.specs.Place.{Given, slotFor, chooseFixed, nameBit, nameBytes, workBit, appBit, chooseBit, workBytes, appBytes, chooseBytes, chooseFree, chooseBy, choose, State, Outcome, done, refused, takeRoom, stepBy, step, andThen, placeFrom, start, place}
-use Rattle.allocator.proofs.Rooms.{fresh-wrk}
-use Rattle.allocator.proofs.Turns.{After, Sizes, step-sizes}
-use Rattle.allocator.proofs.Choosing.{Bad, by-pick, found-low, bad-fitted}
+use Rattle.places.specs.declared.choose.Chosen.{Chosen}
+use Rattle.places.specs.declared.choose.Chosen.the-variants.{Spot, Refused}
+use Rattle.places.specs.Memory.{Maps, clearRoom}
+use Rattle.places.specs.Place.{Given, slotFor, chooseFixed, nameBit, nameBytes, workBit, appBit, chooseBit, workBytes, appBytes, chooseBytes, chooseFree, chooseBy, choose, State, Outcome, done, refused, takeRoom, stepBy, step, andThen, placeFrom, start, place}
+use Rattle.places.proofs.Rooms.{fresh-wrk}
+use Rattle.turns.proofs.Turns.{After, Sizes, step-sizes}
+use Rattle.places.proofs.Choosing.{Bad, by-pick, found-low, bad-fitted}
 
 -- What 8 to 12 mean, each of its value. No other refusal arises.
 abbrev pub Reasons : (ℕ → Type 0) → (ℕ → Type 0) → (ℕ → Type 0) → (ℕ → Type 0) → (ℕ → Type 0) → Refusal → Type 0

@@ -20,16 +20,16 @@ use Rattle.storages.specs.Room.{room, touches}
 use Rattle.maps.specs.declared.Found.{Found}
 use Rattle.maps.specs.declared.Found.the-variants.{Nothing, At}
 use Rattle.slots.specs.Slots.{opened}
-use Rattle.allocator.specs.declared.choose.Chosen.{Chosen}
-use Rattle.allocator.specs.declared.choose.Chosen.the-variants.{Spot, Refused}
-use Rattle.allocator.specs.Memory.{Maps, reserve}
-use Rattle.allocator.specs.Place.{Given, Opened, noOpened, slotFor, choose, Placed, State, placedAt, takeRoom, stepBy, step, placeFrom}
-use Rattle.allocator.specs.Legal.{rightForm, LegalBy, Inside, OffLow, FixedSmall, MayShare, Pairs, Fine}
-use Rattle.allocator.proofs.Tests.{T-yes, any-last, all-snoc, all-map, all-map₂, pairs-snoc}
-use Rattle.allocator.proofs.Rooms.{held, small-bit, clear-inside, clear-free, reserve-keeps, reserve-takes, reserve-length}
-use Rattle.allocator.proofs.Joining.{slotAt, SlotFor, slot-for, Tries, tries-out, fits-out}
-use Rattle.allocator.proofs.Turns.{After, steps-keep}
-use Rattle.allocator.proofs.Choosing.{Good, Sits, choose-sits}
+use Rattle.places.specs.declared.choose.Chosen.{Chosen}
+use Rattle.places.specs.declared.choose.Chosen.the-variants.{Spot, Refused}
+use Rattle.places.specs.Memory.{Maps, reserve}
+use Rattle.places.specs.Place.{Given, Opened, noOpened, slotFor, choose, Placed, State, placedAt, takeRoom, stepBy, step, placeFrom}
+use Rattle.places.specs.Legal.{rightForm, LegalBy, Inside, OffLow, FixedSmall, MayShare, Pairs, Fine}
+use Rattle.places.proofs.Tests.{T-yes, any-last, all-snoc, all-map, all-map₂, pairs-snoc}
+use Rattle.places.proofs.Rooms.{held, small-bit, clear-inside, clear-free, reserve-keeps, reserve-takes, reserve-length}
+use Rattle.turns.proofs.Joining.{slotAt, SlotFor, slot-for, Tries, tries-out, fits-out}
+use Rattle.turns.proofs.Turns.{After, steps-keep}
+use Rattle.places.proofs.Choosing.{Good, Sits, choose-sits}
 use Rattle.allocator.proofs.Keeping.{roomOf, slotRoom, Covers, Disjoint, Member, Known, KnownIn, SlotFine, Keeps, join-keeps}
 
 module _ (g : Given) (a f w : ℕ) (s : Storage) (x : State) (h : Keeps g a f w x) (p : Placement) (num : Found) (c : Sits g s (x .maps) (s .fixed) p) where

@@ -15,7 +15,7 @@ use Rattle.records.specs.Edition.{one}
 use Rattle.records.specs.Program.{Program}
 use Rattle.graph.specs.Graph.{interferes, copied}
 use Rattle.graph.specs.Graphs.{relationRows}
-use Rattle.allocator.specs.Held.{Tells}
+use Rattle.turns.specs.Held.{Tells}
 use Rattle.allocator.specs.Placing.{given}
 
 module _ (r : ℕ → ℕ → Bool) where

@@ -1,5 +1,2 @@
-pub mod Memory
-pub mod Place
-pub mod Legal
-pub mod Held
+pub mod All
 pub mod Placing

@@ -19,7 +19,7 @@ use Rattle.graph.specs.Graph.{interferes, copied}
 use Rattle.graph.specs.Graphs as G
 use Rattle.allocator.specs.declared.Placing.{Placing}
 use Rattle.allocator.specs.declared.Placing.the-variants.{Done, Refused}
-use Rattle.allocator.specs.Place.{Given, Outcome, done, refused, place, recordsOf}
+use Rattle.places.specs.Place.{Given, Outcome, done, refused, place, recordsOf}
 
 -- What the analysis gives to placing. Bits are looked for in all of application RAM.
 abbrev pub given : Edition → Program → Given

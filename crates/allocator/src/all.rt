@@ -8,19 +8,20 @@ ghost use Rattle.records.specs.Record.{u16At, headerFits};
 ghost use Rattle.records.specs.Outcome.{laid};
 ghost use Rattle.storages.specs.Storage.{stored};
 ghost use Rattle.storages.specs.File.{declared};
-ghost use Rattle.allocator.specs.Place.{Given, placeFrom, place};
-ghost use Rattle.allocator.specs.Held.{Tells, Fit, Allocates};
-use crate::turn::Verdict;
-use crate::turn::place_one;
+ghost use Rattle.places.specs.Place.{Given, placeFrom, place};
+ghost use Rattle.turns.specs.Held.{Tells};
+ghost use Rattle.allocator.specs.All.{Fit, Allocates};
 use maps::take_bytes;
 use records::Refusal;
 use records::bytes::tail_of;
 use records::bytes::u16_at;
-use slots::append;
 use slots::no_slots;
+use slots::put_in;
 use slots::slot_of;
 use storages::opens_storage;
 use storages::storage_at;
+use turns::turn::Verdict;
+use turns::turn::place_one;
 
 // How many storages were placed and how many slots opened, or the first refusal.
 pub enum Allocated {
@@ -46,13 +47,15 @@ pub fn place_all(
         → Allocates (placeFrom g (map stored (declared (now (file .entry)))) (record { maps = record { app = now (app .entry); wrk = now (work .entry) }; slots = []; placed = [] }))
         r (now (out .exit))) ⌝ }
 {
-    let mut slots = no_slots();
+    let mut list = no_slots();
+    let mut n = 0;
     let mut at = 7;
     let mut i = 0;
     while opens_storage(tail_of(file, at)) {
         let s = storage_at(tail_of(file, at));
         match place_one(
-            slots,
+            list,
+            n,
             s,
             graph,
             copies,
@@ -65,7 +68,11 @@ pub fn place_all(
             i,
         ) {
             Verdict::Placed => {}
-            Verdict::Opened(p) => slots = append(slots, slot_of(s, p)),
+            Verdict::Opened(p) => {
+                let longer = put_in(list, n, slot_of(s, p));
+                list = longer;
+                n += 1;
+            }
             Verdict::Refused(r) => return Allocated::Refused(r),
         }
         at += 16;
@@ -73,7 +80,7 @@ pub fn place_all(
     }
     Allocated::Done {
         placed: i,
-        slots: slots.n,
+        slots: n,
     }
 }
 

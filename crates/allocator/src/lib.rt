@@ -1,10 +1,6 @@
 // The placer: where each storage of a file lies.
-// Knows the graph, the maps and the slots by their promises; gives the placement of every storage, or the first refusal.
+// Knows the graph, the maps, the slots and the turn of one storage by their promises; gives the placement of every storage, or the first refusal.
 mod all;
-mod choose;
-mod marks;
-mod memory;
-mod turn;
 
 ghost use mathlib.Core.Path.{_≡_};
 ghost use mathlib.Core.List.{List};

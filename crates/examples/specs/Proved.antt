@@ -25,9 +25,9 @@ use Rattle.storages.specs.Placement.{codeOf, aOf, bOf, fixedAt}
 use Rattle.storages.specs.Storage.{stored, allows, isBit, tries, bitCode, bytesCode, kindMatches}
 use Rattle.maps.specs.Maps.{clears, firstWindow, lowFrom, lowClear, highBit, clearBytes, clearBit, fill, setBit}
 use Rattle.slots.specs.Slots.{suits}
-use Rattle.allocator.specs.Memory.{fresh, clearRoom, reserve}
-use Rattle.allocator.specs.Place as P
-use Rattle.allocator.specs.Place.{done, refused, fits, partners, firstSlot, slotFor, chooseFixed, fitted, workBit, chooseBit, workBytes, chooseBytes, chooseFree, choose, step as placeStep, placeFrom, place}
+use Rattle.places.specs.Memory.{fresh, clearRoom, reserve}
+use Rattle.places.specs.Place as P
+use Rattle.places.specs.Place.{done, refused, fits, partners, firstSlot, slotFor, chooseFixed, fitted, workBit, chooseBit, workBytes, chooseBytes, chooseFree, choose, step as placeStep, placeFrom, place}
 use Rattle.allocator.specs.Placing.{placing}
 use Rattle.examples.specs.Files.{sizes, header, declaring, storage, directByte, fixed, bits, copying, lane, immediate, return, worked, unfinished, twice, unknown, functions, crowded, idle, noBlocks, jumping, clobbering, allReserved, bitsInByte, shadowed, atBit, workOnly, noWork}
 

@@ -15,9 +15,9 @@ use Rattle.units.specs.Rows.{unitRow}
 use Rattle.units.specs.Along.{from, StandsAt, Sound, Ready}
 use Rattle.units.specs.declared.cursor.Cursor.{Cursor}
 use Rattle.units.proofs.Standing.{units-once, units-most}
+use Rattle.passes.specs.Passes.{Given, Solved}
 use Rattle.liveness.specs.Flow.{Use, Flow, noFlow, useOf, flowOf, flows}
 use Rattle.liveness.specs.Settle.{flowAt, settledBy, liveness}
-use Rattle.liveness.specs.Passes.{Given, Solved}
 use Rattle.liveness.specs.Lives.{liveWords}
 use Rattle.liveness.specs.Walks.{FunctionHere}
 use Rattle.liveness.specs.Survey.{blockAt, BeginAt, Surveyed}

@@ -20,9 +20,9 @@ use Rattle.records.specs.Edition.{one}
 use Rattle.units.specs.Sets.{any, each}
 use Rattle.units.specs.Uses.{storageOf}
 use Rattle.graph.specs.Graph.{hasPair}
-use Rattle.graph.specs.Members.{membersFrom, ahead, members}
-use Rattle.graph.specs.Meeting.{storageAt, storagesAt, paired, unitPairs, unitRows, lessRows, poured}
-use Rattle.graph.specs.Closing.{linked}
+use Rattle.meetings.specs.Members.{membersFrom, ahead, members}
+use Rattle.meetings.specs.Meeting.{storageAt, storagesAt, paired, unitPairs, unitRows, lessRows, poured}
+use Rattle.meetings.specs.Closing.{linked}
 use Rattle.graph.proofs.Anys.{or-is, or-cases, or-left, or-right, and-both, and-in, same-test, eqb-sym, pair-nil, pair-cons}
 
 -- ---- the members of a row, in a list

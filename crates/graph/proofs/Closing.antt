@@ -21,10 +21,10 @@ use Rattle.records.specs.Program.{Program}
 use Rattle.units.specs.Sets.{any, each}
 use Rattle.graph.specs.Graph.{hasPair, clashes, allUses, addressed, sameOwner, held, interferes, copiesAt, copies, copied}
 use Rattle.graph.specs.Graphs.{relationRows}
-use Rattle.graph.specs.Members.{members}
-use Rattle.graph.specs.Meeting.{storagesAt}
+use Rattle.meetings.specs.Members.{members}
+use Rattle.meetings.specs.Meeting.{storagesAt}
 use Rattle.storages.specs.File.{declared}
-use Rattle.graph.specs.Closing.{linked, apart, apartAll, meetPairs, closed, ownPair, ownPairs, holdPairs, heldBy}
+use Rattle.meetings.specs.Closing.{linked, apart, apartAll, meetPairs, closed, ownPair, ownPairs, holdPairs, heldBy}
 use Rattle.graph.specs.Gathered.{stops, Numbered, Gathered, Paired, Addressed}
 use Rattle.graph.proofs.Anys.{and-is, or-cases, or-left, or-right, and-both, and-in, same-test, eqb-sym, not-eqb, not-eqb-out, any-out, any-in, has-mem, mem-has, pair-each, pair-append, pair-nil, pair-cons, pair-pick}
 use Rattle.graph.proofs.Buffers.{Low, Fit, fit-append, fit-each, storages-low, length-linked, words-linked, member-linked}

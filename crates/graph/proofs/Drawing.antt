@@ -20,7 +20,7 @@ use Rattle.records.specs.declared.Checked.{Checked}
 use Rattle.records.specs.declared.Checked.the-variants as checked
 use Rattle.records.proofs.Outcomes.{laid-rest}
 use Rattle.records.proofs.Accepted.{accepted}
-use Rattle.liveness.specs.Passes.{blank}
+use Rattle.passes.specs.Passes.{blank}
 use Rattle.graph.specs.Graph.{interferes, copied, passes}
 use Rattle.graph.specs.Graphs.{Outcome, graphedBy, graphed, lastLive, relationRows, GraphsIn, Graphs}
 use Rattle.graph.specs.Walking.{Counted, Whole}

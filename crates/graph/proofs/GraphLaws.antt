@@ -13,7 +13,7 @@ use Rattle.records.specs.Pick.{has}
 use Rattle.records.specs.Edition.{Edition}
 use Rattle.records.specs.Program.{Program}
 use Rattle.units.specs.Uses.{storageOf}
-use Rattle.liveness.specs.Live as L
+use Rattle.passes.specs.Live as L
 use Rattle.liveness.specs.Flow.{Use, Flow, flows}
 use Rattle.liveness.specs.Settle.{stepView, views, before, flowAt, settledBy}
 use Rattle.liveness.proofs.SetLaws.{or-cases, or-l, or-r, and-l, and-r, and-in, T-true, T-false, T-yes, T-not as not-yes, eqb-sym, eqb-yes, any-nil, any-out, any-in}

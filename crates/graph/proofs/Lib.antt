@@ -3,9 +3,6 @@ pub mod StepLaws
 pub mod GraphLaws
 pub mod CopyLaws
 pub mod NumberLaws
-pub mod Firsts
-pub mod Walks
-pub mod Closes
 pub mod Anys
 pub mod Buffers
 pub mod Meeting

@@ -25,8 +25,8 @@ use Rattle.units.specs.Rows.{listed, unitRow}
 use Rattle.liveness.specs.Flow.{Use, Flow, flows}
 use Rattle.liveness.specs.Settle.{before, settledBy}
 use Rattle.graph.specs.Graph.{hasPair, inStorage, isCopy, spared, clash, clashesAt, clashesIn, clashesFrom, clashesOf, clashes, copiesAt}
-use Rattle.graph.specs.Members.{members}
-use Rattle.graph.specs.Meeting.{storageAt, storagesAt, unitRows, lessRows, wanted, met, pairsTo, copyPairs, copiesNoted, addressedNoted}
+use Rattle.meetings.specs.Members.{members}
+use Rattle.meetings.specs.Meeting.{storageAt, storagesAt, unitRows, lessRows, wanted, met, pairsTo, copyPairs, copiesNoted, addressedNoted}
 use Rattle.graph.specs.Gathered.{Stop, stopsIn, stopsFrom, stopsOf, stops, Numbered, Within, UnitRows, wants, Gathered, Paired, Addressed}
 use Rattle.graph.proofs.Anys.{and-is, or-cases, and-both, and-in, same-test, eqb-sym, not-eqb, not-eqb-out, any-cons, any-nil, any-append, any-map, any-each, any-same, any-out, any-in, mem-select, select-mem, has-any, has-mem, mem-has, has-append, has-map-out, has-map-in, has-at, pair-each, pair-map, pair-nil, pair-append}
 use Rattle.graph.proofs.Buffers.{members-out, members-in, storages-low, Low, Fit, fit-append, length-paired, words-paired, member-paired, member-units, member-less-rows, length-less-rows, length-poured, member-poured}

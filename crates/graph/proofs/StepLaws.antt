@@ -10,8 +10,8 @@ use Rattle.records.specs.Pick.{has}
 use Rattle.records.specs.Edition.{Edition}
 use Rattle.units.specs.Sets.{select, any}
 use Rattle.units.specs.Uses.{storageOf}
+use Rattle.passes.proofs.Laws.{antisym}
 use Rattle.liveness.specs.Flow.{Use}
-use Rattle.liveness.proofs.Laws.{antisym}
 use Rattle.liveness.proofs.SetLaws.{or-cases, or-l, or-r, and-l, and-r, and-in, eqb-yes, any-select, any-map, any-out, any-in, any-same, has-mem, mem-has, has-append}
 use Rattle.graph.specs.Graph.{hasPair, inStorage, isCopy, spared, clash, clashesAt}
 use Rattle.graph.proofs.PairLaws.{hasPair-each, in-storage-in, in-storage-out}

@@ -28,7 +28,7 @@ use Rattle.liveness.specs.Survey.{BeginAt}
 use Rattle.liveness.proofs.SetLaws.{has-append, has-less, has-join}
 use Rattle.liveness.proofs.Rows.{row-or, row-less, row-same}
 use Rattle.graph.specs.Graph.{isCopy}
-use Rattle.graph.specs.Meeting.{met, copiesNoted, addressedNoted}
+use Rattle.meetings.specs.Meeting.{met, copiesNoted, addressedNoted}
 use Rattle.graph.specs.Gathered.{Stop, stopsIn, Numbered, Within, UnitRows, Gathered, Paired, Addressed}
 use Rattle.graph.specs.Walking.{operationAt, across, usesAt, Noted, Told, useAt, Fits, Sized, StepTaken, BlockTaken}
 use Rattle.graph.proofs.Anys.{or-cases, and-both}

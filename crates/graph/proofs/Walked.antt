@@ -24,10 +24,10 @@ use Rattle.units.specs.Sets.{each}
 use Rattle.units.specs.Along.{from, functionFrom, Stands, StandsAt, Sound, brought}
 use Rattle.units.specs.declared.cursor.Cursor.{Cursor}
 use Rattle.units.proofs.Standing.{stands-start, stands-on}
+use Rattle.passes.specs.Passes.{blank, Held}
 use Rattle.liveness.specs.Flow.{flows}
 use Rattle.liveness.specs.Settle.{liveness}
 use Rattle.liveness.specs.Lives.{liveWords}
-use Rattle.liveness.specs.Passes.{blank, Held}
 use Rattle.liveness.specs.Walks.{FunctionHere, Came, Stopped}
 use Rattle.liveness.proofs.Onward.{kind-at, from-past, from-by, from-kind, read-kind}
 use Rattle.graph.specs.Graph.{sum, passes}

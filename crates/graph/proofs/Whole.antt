@@ -11,7 +11,7 @@ use Rattle.records.specs.Program.{Function, Program, program}
 use Rattle.units.specs.Sets.{each}
 use Rattle.units.specs.Along.{Indexed}
 use Rattle.units.proofs.Standing.{units-most}
-use Rattle.liveness.specs.Passes.{blank}
+use Rattle.passes.specs.Passes.{blank}
 use Rattle.liveness.specs.Flow.{Use, Flow, flows}
 use Rattle.liveness.specs.Settle.{settledBy}
 use Rattle.liveness.proofs.SettleLaws.{settled-outs}
@@ -20,8 +20,8 @@ use Rattle.graph.specs.Graphs.{relationRows, Graphs, Outcome}
 use Rattle.graph.specs.declared.Graphed.{Graphed}
 use Rattle.graph.specs.Gathered.{Stop, stopsIn, stopsFrom, stopsOf, stops, Paired, Addressed}
 use Rattle.graph.specs.Walking.{usesAt, Noted, Granted, AllTaken, Counted, Whole}
-use Rattle.graph.specs.Meeting.{unitRows}
-use Rattle.graph.specs.Closing.{closed, heldBy}
+use Rattle.meetings.specs.Meeting.{unitRows}
+use Rattle.meetings.specs.Closing.{closed, heldBy}
 use Rattle.graph.proofs.Closing.{graph-is, copies-is}
 use Rattle.storages.proofs.Declared.{declared-is}
 

@@ -15,7 +15,7 @@ use Rattle.units.specs.Uses.{isInstruction}
 use Rattle.liveness.specs.Flow.{Use, Flow, flows}
 use Rattle.liveness.specs.Settle.{before, settledBy}
 use Rattle.graph.specs.Graph.{hasPair, inStorage, spared, copiesAt}
-use Rattle.graph.specs.Meeting.{unitRows}
+use Rattle.meetings.specs.Meeting.{unitRows}
 
 -- A step with what is live after it; those of some steps, of which `out` is live at the end; of blocks, given with their live-outs; of a function; of a program.
 abbrev pub Stop : Type 0

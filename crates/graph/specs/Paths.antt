@@ -9,7 +9,7 @@ use Rattle.records.specs.Pick.{has}
 use Rattle.records.specs.Edition.{Edition}
 use Rattle.records.specs.Program.{Function, Program}
 use Rattle.units.specs.Uses.{storageOf}
-use Rattle.liveness.specs.Live as L
+use Rattle.passes.specs.Live as L
 use Rattle.liveness.specs.Flow.{Use, Flow, flows}
 use Rattle.liveness.specs.Settle.{stepView, views, flowAt}
 use Rattle.graph.specs.Graph.{spared, held}

@@ -16,10 +16,10 @@ use Rattle.units.specs.Sets.{less, each}
 use Rattle.units.specs.Rows.{unitRow}
 use Rattle.units.specs.Along.{from, stepFrom, IsStep, StandsAt, Sound, Ready}
 use Rattle.units.specs.declared.cursor.Cursor.{Cursor}
+use Rattle.passes.specs.Passes.{Held}
 use Rattle.liveness.specs.Sets.{join}
 use Rattle.liveness.specs.Flow.{Use, useOf, flows}
 use Rattle.liveness.specs.Settle.{before, settledBy, liveness}
-use Rattle.liveness.specs.Passes.{Held}
 use Rattle.liveness.specs.Lives.{liveWords}
 use Rattle.liveness.specs.Walks.{FunctionHere}
 use Rattle.liveness.specs.Survey.{blockAt, BeginAt}

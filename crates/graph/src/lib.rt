@@ -1,8 +1,5 @@
 // Interference of storages, and pairs of copies.
 // Knows live sets and what each step reads and writes; gives which storages must not share a place, and which were copied into one another.
-mod close;
-mod meet;
-mod members;
 mod walk;
 
 ghost use mathlib.Core.Path.{_≡_};

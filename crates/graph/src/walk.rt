@@ -7,18 +7,18 @@ ghost use lib.ListN.{length, getD};
 ghost use Rattle.rows.specs.Row.{orRow, lessRow};
 ghost use Rattle.records.specs.Pick.{pick};
 ghost use Rattle.units.specs.Along.{Sound, Sane};
-ghost use Rattle.liveness.specs.Passes.{blank, Held};
-ghost use Rattle.graph.specs.Meeting.{met, copiesNoted, addressedNoted};
+ghost use Rattle.passes.specs.Passes.{blank, Held};
+ghost use Rattle.meetings.specs.Meeting.{met, copiesNoted, addressedNoted};
 ghost use Rattle.graph.specs.Walking.{operationAt, StepTaken, BlockTaken, Safe, OneTaken, Ordered, BlocksTaken, Owner, Lent, FunctionTaken, Granted, FunctionNext, AllTaken, Counted, Whole};
-use crate::close::close;
-use crate::close::hold;
-use crate::meet::meet;
-use crate::meet::note_addressed;
-use crate::meet::note_copies;
-use crate::meet::unit_rows;
-use liveness::passes::settle;
 use liveness::survey::seek;
 use liveness::survey::survey;
+use meetings::close::close;
+use meetings::close::hold;
+use meetings::meet::meet;
+use meetings::meet::note_addressed;
+use meetings::meet::note_copies;
+use meetings::meet::unit_rows;
+use passes::settle;
 use units::cursor::Cursor;
 use units::index::index_functions;
 use units::uses::uses_at;
@@ -362,6 +362,17 @@ fn at_function(file: &[u8], at: usize) -> bool
     file[at] == 2
 }
 
+// The cursor behind a function's record.
+fn behind(c: Cursor) -> Cursor
+    requires { ⌜ c .at ≤ 16384 ⌝ }
+    ensures { λ r. ⌜ r ≡ record { at = c .at + 2; k = c .k } ⌝ }
+{
+    Cursor {
+        at: c.at + 2,
+        k: c.k,
+    }
+}
+
 // The rows of so many blocks become 0, and with them all: no other row holds anything.
 fn clear_rows(rows: &mut [u64], blocks: usize)
     requires { ⌜ Held (now rows) blocks × (blocks ≤ 128) ⌝ }
@@ -402,10 +413,7 @@ fn take_functions(
     let mut blocks = 0;
     while at_function(file, c.at) {
         clear_rows(rows, blocks);
-        let own = Cursor {
-            at: c.at + 2,
-            k: c.k,
-        };
+        let own = behind(c);
         let went = take_function(
             file,
             numbers,

@@ -29,8 +29,8 @@ use Rattle.records.proofs.Outcomes.{laid-rest}
 use Rattle.records.proofs.Accepted.{accepted}
 use Rattle.units.specs.Along.{from, functionFrom, StandsAt, Indexed, Ready}
 use Rattle.units.specs.Uses.{Lookup, defined, missing, lookup}
+use Rattle.passes.specs.Passes.{blank}
 use Rattle.liveness.specs.Settle.{liveness}
-use Rattle.liveness.specs.Passes.{blank}
 use Rattle.liveness.specs.Walks.{Owned}
 use Rattle.liveness.specs.Lives.{Outcome, liveWords, livedBy, livedOf, lived, LivesIn, Lives}
 use Rattle.units.specs.declared.cursor.Cursor.{Cursor}

@@ -9,9 +9,9 @@ use Rattle.records.specs.Pick.{has}
 use Rattle.records.specs.Edition.{Edition}
 use Rattle.units.specs.Sets.{each, less}
 use Rattle.units.specs.Rows.{unitRow}
+use Rattle.passes.proofs.More as M
 use Rattle.liveness.specs.Flow.{Use}
 use Rattle.liveness.specs.Settle.{stepView, before}
-use Rattle.liveness.proofs.More as M
 use Rattle.liveness.proofs.SetLaws.{has-nil, has-append, has-less, has-join}
 use Rattle.liveness.proofs.SettleLaws.{before-view}
 use Rattle.liveness.proofs.Rows.{row-same, row-or, row-less}

@@ -18,13 +18,13 @@ use Rattle.records.specs.Check.{units, check}
 use Rattle.records.specs.Program.{Block, Rest, Function, program, blockOf, put as putRec}
 use Rattle.units.specs.Rows.{unitRow}
 use Rattle.units.specs.Along.{from, Stands}
+use Rattle.passes.specs.Passes.{width, part, targetsOf}
+use Rattle.passes.proofs.Squash.{getD-map}
 use Rattle.liveness.specs.Flow.{Flow, lastTargets, flowOf, flows, blockIds, noFlow}
 use Rattle.liveness.specs.Settle.{flowAt}
-use Rattle.liveness.specs.Passes.{width, part, targetsOf}
 use Rattle.liveness.specs.Survey.{readFirst, written, blockAt, Surveyed}
 use Rattle.liveness.specs.Walks.{Kept, BlockHere, Stopped, Sought, BlockRead, BlockDone, Tallied, Counted}
 use Rattle.liveness.specs.declared.survey.Walk.{Walk}
-use Rattle.liveness.proofs.Squash.{getD-map}
 use Rattle.units.proofs.Standing.{stands-on}
 use Rattle.liveness.proofs.Onward.{from-block}
 use Rattle.liveness.proofs.Gathering.{begin-kept, target-id}

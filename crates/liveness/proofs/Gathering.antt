@@ -19,8 +19,8 @@ use Rattle.units.specs.Sets.{less}
 use Rattle.units.specs.Uses.{reads, writes}
 use Rattle.units.specs.Rows.{unitRow}
 use Rattle.units.specs.Along.{from, stepFrom, IsStep, Stands, StandsAt, Ready}
+use Rattle.passes.specs.Passes.{part}
 use Rattle.liveness.specs.Flow.{Use, useOf, lastTargets}
-use Rattle.liveness.specs.Passes.{part}
 use Rattle.liveness.specs.Survey.{readFirst, written, BeginAt}
 use Rattle.liveness.specs.Walks.{Kept, Inner, Outer, Same, Asked, usesOf, InBlock, BlockRead}
 use Rattle.units.specs.declared.cursor.Cursor.{Cursor}

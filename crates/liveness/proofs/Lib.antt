@@ -1,14 +1,9 @@
-pub mod Laws
-pub mod More
-pub mod Renumber
 pub mod SetLaws
 pub mod SettleLaws
-pub mod Squash
 pub mod Numbered
 pub mod Rows
 pub mod UseLaws
 pub mod Blocks
-pub mod Passing
 pub mod Onward
 pub mod Gathering
 pub mod Counting

@@ -16,12 +16,12 @@ use Rattle.records.proofs.Range.{Distinct}
 use Rattle.records.proofs.Numbers.{number-low, number-at, at-has}
 use Rattle.units.specs.Sets.{less}
 use Rattle.units.specs.Rows.{listed}
-use Rattle.liveness.specs.Live as L
+use Rattle.passes.specs.Live as L
+use Rattle.passes.proofs.Laws.{antisym, live-in-iff, live-out-iff}
+use Rattle.passes.proofs.Renumber as R
+use Rattle.passes.proofs.Squash.{squash, squash-settled}
 use Rattle.liveness.specs.Flow.{Use, Flow, noFlow}
 use Rattle.liveness.specs.Settle.{stepView, view, views, before, flowAt, stateOf, settledBy}
-use Rattle.liveness.proofs.Laws.{antisym, live-in-iff, live-out-iff}
-use Rattle.liveness.proofs.Renumber as R
-use Rattle.liveness.proofs.Squash.{squash, squash-settled}
 use Rattle.liveness.proofs.SetLaws.{mem-map, map-mem, mem-at, T-true, T-false, has-mem, mem-has, has-join, has-less}
 use Rattle.liveness.proofs.SettleLaws.{settled, Read, path-read, block-read}
 

@@ -18,8 +18,8 @@ use Rattle.records.proofs.Range.{Distinct}
 use Rattle.records.proofs.Numbers.{number-low, number-at}
 use Rattle.units.specs.Sets.{less}
 use Rattle.units.specs.Rows.{listed, unitRow}
+use Rattle.passes.proofs.Laws.{antisym}
 use Rattle.liveness.specs.Sets.{join}
-use Rattle.liveness.proofs.Laws.{antisym}
 use Rattle.liveness.proofs.SetLaws.{eqb-yes, has-nil, has-cons, has-append, has-less, has-join}
 use Rattle.liveness.proofs.Numbered.{Among, number-of, has-unlisted}
 

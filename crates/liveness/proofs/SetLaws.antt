@@ -11,8 +11,8 @@ use lib.ListN.{length, getD}
 use lib.Dec.{T, eqb, ltb, eqb→eq, eqb-refl}
 use Rattle.records.specs.Pick.{pick, _or_, has}
 use Rattle.units.specs.Sets.{select, any, each, less}
+use Rattle.passes.proofs.Laws.{antisym}
 use Rattle.liveness.specs.Sets.{insert, join, every, within, sameSet}
-use Rattle.liveness.proofs.Laws.{antisym}
 
 -- Tests, as implications ------------------------------------------------------------------------------------------------------------
 

@@ -15,11 +15,11 @@ use Rattle.records.specs.Pick.{pick, has}
 use Rattle.records.specs.Edition.{Edition}
 use Rattle.records.specs.Program.{Function, Program}
 use Rattle.units.specs.Sets.{less}
-use Rattle.liveness.specs.Live as L
+use Rattle.passes.specs.Live as L
+use Rattle.passes.proofs.Laws.{put-cases, state-ext, settles, settles-within, settled-unique, live-inside, live-in-iff, live-out-iff}
 use Rattle.liveness.specs.Sets.{sameSet}
 use Rattle.liveness.specs.Flow.{Use, Flow, noFlow, flowOf, flows}
 use Rattle.liveness.specs.Settle.{stepView, view, views, Sets, stateOf, unionAt, before, flowAt, visitAt, sweepAt, passAt, sameRows, sameSets, Outcome, settleFrom, nothing, settledBy, liveness}
-use Rattle.liveness.proofs.Laws.{put-cases, state-ext, settles, settles-within, settled-unique, live-inside, live-in-iff, live-out-iff}
 use Rattle.liveness.proofs.SetLaws.{mem-map, and-l, and-r, and-in, T-true, T-false, T-yes, has-nil, has-less, has-join, sameSet-out, sameSet-in}
 
 pub block-view : (fs : List Flow) (k : ℕ) → L.block (views fs) k ≡ view (flowAt fs k)

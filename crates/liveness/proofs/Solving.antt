@@ -22,17 +22,17 @@ use Rattle.records.proofs.Range.{Distinct}
 use Rattle.records.proofs.Numbers.{at-has}
 use Rattle.units.specs.Sets.{less}
 use Rattle.units.specs.Rows.{listed, unitRow}
-use Rattle.liveness.specs.Live as L
 use Rattle.units.specs.Along.{Ready}
+use Rattle.passes.specs.Live as L
+use Rattle.passes.specs.Passes as P
+use Rattle.passes.proofs.More as M
+use Rattle.passes.proofs.Squash.{oneStep, squash}
 use Rattle.liveness.specs.Flow.{Use, Flow, noFlow, flows}
 use Rattle.liveness.specs.Settle.{Sets, stepView, view, views, flowAt, settledBy, liveness}
-use Rattle.liveness.specs.Passes as P
 use Rattle.liveness.specs.Survey.{readFirst, written, Surveyed}
 use Rattle.liveness.specs.Lives.{rowsFrom, liveWords}
-use Rattle.liveness.proofs.More as M
 use Rattle.liveness.proofs.SetLaws.{has-nil, has-append, has-less, mem-at}
 use Rattle.liveness.proofs.SettleLaws.{flows-length, settled-ins, settled-outs}
-use Rattle.liveness.proofs.Squash.{oneStep, squash}
 use Rattle.liveness.proofs.Numbered.{numberUse, numberFlow, numbered, Among, Listed, AllListed, number-of, has-number, has-past, rows-count, rows-listed}
 use Rattle.liveness.proofs.UseLaws.{accepted-listed}
 use Rattle.units.proofs.Standing.{units-once, units-most}

@@ -14,7 +14,7 @@ use Rattle.records.proofs.Shape.{BlocksFit}
 use Rattle.records.proofs.Formed.{Closes, last, front, BlockFormed, FunctionFormed}
 use Rattle.records.proofs.Accepted.{accepted}
 use Rattle.units.specs.Along.{from, StandsAt, Ready}
-use Rattle.liveness.specs.Passes.{Given}
+use Rattle.passes.specs.Passes.{Given}
 use Rattle.liveness.specs.Survey.{Surveyed}
 use Rattle.liveness.specs.Walks.{FunctionHere, Stopped, Came, BlockNext, Asked, Grown, Growing}
 use Rattle.units.specs.declared.cursor.Cursor.{Cursor}

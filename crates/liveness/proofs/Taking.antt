@@ -14,7 +14,7 @@ use Rattle.records.specs.Program.{Step, Function}
 use Rattle.records.proofs.ByKind.{length-one}
 use Rattle.units.specs.Rows.{unitRow}
 use Rattle.units.specs.Along.{stepFrom, IsStep, Stands, StandsAt, Sound}
-use Rattle.liveness.specs.Passes.{width}
+use Rattle.passes.specs.Passes.{width}
 use Rattle.liveness.specs.Survey.{readFirst, written}
 use Rattle.liveness.specs.Walks.{BlockHere, Stopped, Came, Inner, Outer, Kind, Same, Within, Asked, usesOf, Taken, Walked, Tallied, Grown}
 use Rattle.units.specs.declared.cursor.Cursor.{Cursor}

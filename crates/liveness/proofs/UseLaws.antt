@@ -19,11 +19,11 @@ use Rattle.records.proofs.Shape.{idsOf}
 use Rattle.records.proofs.Accepted.{accepted}
 use Rattle.units.specs.Sets.{select}
 use Rattle.units.specs.Uses.{isParameter, isResult, isOutcome, readsField, writesField, defined, lookup, abisBy, unitsIn, unitsOf, abisOf, reads, writes}
+use Rattle.passes.proofs.Squash.{getD-map}
 use Rattle.liveness.specs.Flow.{Use, Flow, noFlow, useOf, lastTargets, flowOf, flows}
 use Rattle.liveness.specs.Settle.{flowAt, settledBy}
 use Rattle.liveness.proofs.SetLaws.{T-true, T-yes, or-cases, has-nil, has-cons, mem-map, mem-at}
 use Rattle.liveness.proofs.SettleLaws.{settled-ins, settled-outs, live-entry, live-end, Read, path-read, block-read}
-use Rattle.liveness.proofs.Squash.{getD-map}
 use Rattle.liveness.proofs.Numbered.{Among, Listed, AllListed}
 
 pub all-mem : {A : Type 0} (P : A → Type 0) (l : List A) → All P l → {a : A} → List·Memᴰ a l → P a

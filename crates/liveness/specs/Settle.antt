@@ -7,7 +7,7 @@ use Rattle.records.specs.Pick.{pick, has}
 use Rattle.records.specs.Edition.{Edition}
 use Rattle.records.specs.Program.{Function, Program}
 use Rattle.units.specs.Sets.{less}
-use Rattle.liveness.specs.Live as L
+use Rattle.passes.specs.Live as L
 use Rattle.liveness.specs.Sets.{join, sameSet}
 use Rattle.liveness.specs.Flow.{Use, Flow, noFlow, flows}
 

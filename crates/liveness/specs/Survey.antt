@@ -10,9 +10,9 @@ use Rattle.records.specs.Program.{Step, Block, Function, program}
 use Rattle.units.specs.Sets.{less}
 use Rattle.units.specs.Rows.{unitRow}
 use Rattle.units.specs.Along.{Stands, IsStep, stepFrom}
+use Rattle.passes.specs.Passes.{width, targetsOf, Given}
 use Rattle.liveness.specs.Flow.{Use, flows}
 use Rattle.liveness.specs.Settle.{flowAt}
-use Rattle.liveness.specs.Passes.{width, targetsOf, Given}
 
 -- The units that some steps read before they write them; the units that they write.
 unfoldable pub readFirst : List Use → List ℕ

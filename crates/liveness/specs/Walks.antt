@@ -13,8 +13,8 @@ use Rattle.records.specs.Check.{units, check}
 use Rattle.records.specs.Program.{Step, Block, Function, program}
 use Rattle.units.specs.Rows.{unitRow}
 use Rattle.units.specs.Along.{from, Stands, StandsAt, Ready, broughtBy}
+use Rattle.passes.specs.Passes.{width, part, targetsOf}
 use Rattle.liveness.specs.Flow.{Use, useOf, lastTargets}
-use Rattle.liveness.specs.Passes.{width, part, targetsOf}
 use Rattle.liveness.specs.Survey.{readFirst, written, blockAt, BeginAt}
 use Rattle.units.specs.declared.cursor.Cursor.{Cursor}
 use Rattle.liveness.specs.declared.survey.Walk.{Walk}

@@ -1,6 +1,5 @@
 // Live sets of a function.
 // Knows what each step reads and writes; gives live-in and live-out of each block, and the passes that it took to settle them.
-pub mod passes;
 pub mod survey;
 
 ghost use mathlib.Core.Path.{_≡_};
@@ -13,12 +12,12 @@ ghost use Rattle.records.specs.Outcome.{laid};
 ghost use Rattle.records.specs.Program.{Function, program};
 ghost use Rattle.units.specs.Along.{from, StandsAt, Sound, Sane, Ready};
 ghost use Rattle.units.specs.Uses.{lookup};
+ghost use Rattle.passes.specs.Passes.{blank};
 ghost use Rattle.liveness.specs.Settle.{liveness};
-ghost use Rattle.liveness.specs.Passes.{blank};
 ghost use Rattle.liveness.specs.Walks.{Owned};
 ghost use Rattle.liveness.specs.Lives.{liveWords, livedBy, LivesIn, Lives};
-use crate::passes::settle;
 use crate::survey::survey;
+use passes::settle;
 use records::Checked;
 use records::Refusal;
 use records::number_units;

@@ -10,7 +10,7 @@ ghost use Rattle.records.specs.Units.{numberIn};
 ghost use Rattle.records.specs.Program.{Step, Function, program};
 ghost use Rattle.units.specs.Rows.{unitRow};
 ghost use Rattle.units.specs.Along.{from, stepFrom, IsStep, StandsAt, Sound, Sane, Ready};
-ghost use Rattle.liveness.specs.Passes.{Given};
+ghost use Rattle.passes.specs.Passes.{Given};
 ghost use Rattle.liveness.specs.Survey.{readFirst, written, Surveyed};
 ghost use Rattle.liveness.specs.Walks.{BlockHere, FunctionHere, Stopped, Stops, Paced, Came, BlockNext, Inner, Outer, Kind, Same, Within, Asked, usesOf, Taken, Walked, Tallied, Grown};
 use records::bytes::length_of;

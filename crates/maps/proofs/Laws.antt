@@ -20,7 +20,7 @@ use Rattle.maps.specs.declared.Found.{Found}
 use Rattle.maps.specs.declared.Found.the-variants.{Nothing, At}
 use Rattle.maps.specs.declared.FoundBit.{FoundBit}
 use Rattle.maps.specs.declared.FoundBit.the-variants.{NoBit, BitAt}
-use Rattle.maps.specs.Maps.{clears, later, firstWindow, lowFrom, lowClear, orBelow, highBit, clearBytes, clearBit, fill, setBit}
+use Rattle.maps.specs.Maps.{NextClear, clears, later, firstWindow, lowFrom, lowClear, orBelow, highBit, clearBytes, clearBit, fill, setBit}
 
 -- ---- Windows
 
@@ -60,13 +60,21 @@ abbrev pub NoneBefore : ℕ → List ℕ → ℕ → Type 0
 NoneBefore n m o = (j : ℕ) → j < o → T (clears n (drop j m)) → ⊥
 
 -- A byte that is not clear lies in each window from o to o + k, so that the search goes on behind it.
-pub none-behind : (n o k : ℕ) (m : List ℕ) → NoneBefore n m o → k < n → (getD m (o + k) 0 ≡ 0 → ⊥) → NoneBefore n m (o + (k + 1))
+pub none-behind : (n o k : ℕ) (m : List ℕ) → NoneBefore n m o → k < n → (getD m (o + k) 0 ≡ 0 → ⊥) → NoneBefore n m (o + k + 1)
 none-behind n o k m h l b j i t = go (decLt j o)
   where
     go : Dec (j < o) → ⊥
     go (yes x) = h j x t
     go (no x) = let e : j + (o + k - j) ≡ o + k = omega arith in
         b (subst (λ (y : ℕ). getD m y 0 ≡ 0) e (clear-out n j m t (o + k - j) (omega arith)))
+
+-- No window begins at a byte that is not clear, so that the search goes on at the next clear one.
+pub none-until : (n o r : ℕ) (m : List ℕ) → 0 < n → NoneBefore n m o → NextClear m o r → NoneBefore n m r
+none-until n o r m z h q j i t = go (decLt j o)
+  where
+    go : Dec (j < o) → ⊥
+    go (yes x) = h j x t
+    go (no x) = let e : j + 0 ≡ j = omega arith in q .taken j i (omega arith) (rw e at (clear-out n j m t 0 z))
 
 -- A map that ends inside the window at o ends inside each later one.
 pub none-short : (n o : ℕ) (m : List ℕ) → NoneBefore n m o → length m < o + n → NoneBefore n m (length m)

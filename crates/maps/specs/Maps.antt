@@ -1,7 +1,8 @@
 -- Document 01, "Placement": occupancy maps. A map is a list of bytes, and a set bit of it is taken.
+use mathlib.Core.Path.{_≡_}
 use mathlib.Core.Bool.{Bool, true, false, not, _&&_}
 use mathlib.Core.List.{List, [], _∷_}
-use Prim.Native.Nat.{ℕ, zero, suc, _+_, _^_, _<_}
+use Prim.Native.Nat.{ℕ, zero, suc, _+_, _^_, _≤_, _<_}
 use lib.Dec.{ltb, leb, eqb}
 use lib.Bits.{bitOr}
 use lib.ListN.{length, getD, set, drop}
@@ -11,6 +12,13 @@ use Rattle.maps.specs.declared.Found.{Found}
 use Rattle.maps.specs.declared.Found.the-variants.{Nothing, At}
 use Rattle.maps.specs.declared.FoundBit.{FoundBit}
 use Rattle.maps.specs.declared.FoundBit.the-variants.{NoBit, BitAt}
+
+-- From `o` on, the first offset whose byte is clear, or the end of the map.
+pub record NextClear (m : List ℕ) (o r : ℕ) : Type 0 where
+  pub behind : o ≤ r
+  pub inside : r ≤ length m
+  pub taken : (j : ℕ) → j < r → o ≤ j → getD m j 0 ≡ 0 → ⊥
+  pub clear : r < length m → getD m r 0 ≡ 0
 
 -- The map begins with n clear bytes.
 unfoldable pub clears : ℕ → List ℕ → Bool

@@ -3,7 +3,7 @@
 ghost use mathlib.Core.Path.{_≡_};
 ghost use Prim.Native.Nat.{_+_, _≤_, _<_};
 ghost use lib.ListN.{length};
-ghost use Rattle.maps.specs.Maps.{firstWindow, FoundIn, lowClear, highBit, BitIn, clearBytes, clearBit, fill, setBit};
+ghost use Rattle.maps.specs.Maps.{NextClear, firstWindow, FoundIn, lowClear, highBit, BitIn, clearBytes, clearBit, fill, setBit};
 
 // Where a window is, or that there is none.
 pub enum Found {
@@ -17,7 +17,22 @@ pub enum FoundBit {
     BitAt { offset: usize, bit: usize },
 }
 
-// The least offset from which n bytes are clear. No window over a byte that is not 0 is, so that the search goes on behind it.
+// The first offset at or after `from` whose byte is 0, or the map's length.
+fn next_clear(map: &[u8], from: usize) -> usize
+    requires { ⌜ from ≤ length (now map) ⌝ }
+    ensures { λ r. ⌜ NextClear (now (map .entry)) from r ⌝ }
+{
+    let mut o = from;
+    while o < map.len() {
+        if map[o] == 0 {
+            break;
+        }
+        o += 1;
+    }
+    o
+}
+
+// The least offset from which n bytes are clear. No window over a byte that is not 0 is, so that the search goes on at the next clear one.
 pub fn first_clear(map: &[u8], n: usize) -> Found
     ensures { λ r. ⌜ (r ≡ firstWindow n (now (map .entry))) × FoundIn (length (now (map .entry))) r ⌝ }
 {
@@ -39,7 +54,7 @@ pub fn first_clear(map: &[u8], n: usize) -> Found
             }
             k += 1;
         }
-        o += k + 1;
+        o = next_clear(map, o + k + 1);
     }
 }
 

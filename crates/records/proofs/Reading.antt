@@ -158,7 +158,7 @@ module _ (t : List ℕ) (k n : ℕ) (kind : k ≡ getD t 0 0) (is : n ≡ length
   unfolding u8At
   length-is = rw kind at is
 
-  not-whole : (n ≡ 0) ⊎ (length t < n) → read one t ≡ fault
+  pub not-whole : (n ≡ 0) ⊎ (length t < n) → read one t ≡ fault
   unfolding read present
   not-whole h = pick-no _ _ _ (no-both (ltb 0 (length t)) _ (cut h))
     where

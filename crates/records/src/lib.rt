@@ -1,5 +1,6 @@
 // The program file: what a record is, what it may hold, and `check`, which answers every byte string.
 // Knows bytes and bit rows; gives the refusals, the reader of records with their fields, and the numbered units of a file.
+mod buckets;
 pub mod bytes;
 mod naming;
 mod pending;
@@ -7,7 +8,6 @@ mod ranges;
 mod reader;
 mod step;
 pub mod table;
-mod units;
 mod walk;
 
 ghost use mathlib.Core.Path.{_≡_};

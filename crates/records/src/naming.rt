@@ -11,11 +11,11 @@ ghost use Rattle.records.specs.Units.{noUnit};
 ghost use Rattle.records.specs.Step.{State, withNumber, wordStep, unitStep, next};
 ghost use Rattle.records.specs.Mirror.{readerOf, Low, Holds, Comes};
 use crate::Refusal;
+use crate::buckets::append;
+use crate::buckets::find;
+use crate::buckets::word_of;
 use crate::reader::Reader;
 use crate::reader::Taken;
-use crate::units::append;
-use crate::units::find;
-use crate::units::word_of;
 
 // A storage's id is declared.
 fn declared(ids: &[u64], id: u16) -> bool

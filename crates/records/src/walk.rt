@@ -1,6 +1,8 @@
 // The whole file, record by record from the front.
 ghost use mathlib.Core.Path.{_≡_};
-ghost use Prim.Native.Nat.{_≤_};
+ghost use mathlib.Core.Bool.{true, false};
+ghost use mathlib.Core.Logic.{_⊎_};
+ghost use Prim.Native.Nat.{_≤_, _<_};
 ghost use mathlib.Core.List.{[]};
 ghost use lib.ListN.{length};
 ghost use Rattle.records.specs.Edition.{one};
@@ -15,6 +17,16 @@ use crate::reader::AT_END;
 use crate::reader::Taken;
 use crate::reader::start_reading;
 use crate::step::step_on;
+
+// Is the record at the front of a tail not whole, or of no kind? `len` is how long its kind is.
+fn is_cut(tail: &[u8], len: usize) -> bool
+    ensures { λ r. ⌜ (r ≡ true → (len ≡ 0) ⊎ (length (now (tail .entry)) < len)) × (r ≡ false → (len ≡ 0 → ⊥) × (len ≤ length (now (tail .entry)))) ⌝ }
+{
+    if len == 0 {
+        return true;
+    }
+    tail.len() < len
+}
 
 // What the file comes to once all of it is read.
 pub fn walk(file: &[u8], words: &mut [u32], numbers: &mut [u16]) -> Checked
@@ -32,10 +44,7 @@ pub fn walk(file: &[u8], words: &mut [u32], numbers: &mut [u16]) -> Checked
         let tail = tail_of(file, at);
         let kind = tail[0];
         let len = length_of(kind);
-        if len == 0 {
-            return Checked::Refused(Refusal::Form(at));
-        }
-        if tail.len() < len {
+        if is_cut(tail, len) {
             return Checked::Refused(Refusal::Form(at));
         }
         match step_on(

@@ -1,7 +1,7 @@
 // Slots: places that storages of one owner, kind and length share.
-// Knows storages; gives the slot as a struct with its placement as a choice inside it, and a list of slots to search and to append to.
+// Knows storages; gives the slot as a struct with its placement as a choice inside it, and a list of slots to walk and to put into.
 ghost use mathlib.Core.Path.{_≡_};
-ghost use Prim.Native.Nat.{_+_, _≤_, _<_};
+ghost use Prim.Native.Nat.{_≤_, _<_};
 ghost use lib.ListN.{length, getD, set, replicate};
 ghost use Rattle.records.specs.Pick.{pick};
 ghost use Rattle.slots.specs.Slots.{noSlot, suits, passes, firstOf, opened};
@@ -16,12 +16,6 @@ pub struct Slot {
     pub kind: u8,
     pub len: u16,
     pub placement: Placement,
-}
-
-// The opened slots, in opening order: the first n of the list.
-pub struct Slots {
-    pub list: [Slot; 256],
-    pub n: usize,
 }
 
 // The slot that a storage opens at a placement.
@@ -96,8 +90,8 @@ pub fn walk(slots: &[Slot], n: usize, s: Storage, free: &[u64], chosen: &[u64]) 
     found
 }
 
-// The bridges lend the list by value to the functions over a lent list.
-fn put_in(list: [Slot; 256], i: usize, t: Slot) -> [Slot; 256]
+// Slot t put at i into a list by value, which is lent to `put`.
+pub fn put_in(list: [Slot; 256], i: usize, t: Slot) -> [Slot; 256]
     requires { ⌜ i < 256 ⌝ }
     ensures { λ r. ⌜ r ≡ set list i t ⌝ }
 {
@@ -106,7 +100,8 @@ fn put_in(list: [Slot; 256], i: usize, t: Slot) -> [Slot; 256]
     longer
 }
 
-fn walk_of(list: [Slot; 256], n: usize, s: Storage, free: &[u64], chosen: &[u64]) -> usize
+// The first of n slots of a list by value, which is lent to `walk`.
+pub fn walk_of(list: [Slot; 256], n: usize, s: Storage, free: &[u64], chosen: &[u64]) -> usize
     requires { ⌜ (n ≤ 256) × (length (now free) ≡ 4) × (length (now chosen) ≡ 4) ⌝ }
     ensures { λ r. ⌜ r ≡ firstOf (passes s (now (free .entry)) (now (chosen .entry))) list n n ⌝ }
 {
@@ -114,8 +109,8 @@ fn walk_of(list: [Slot; 256], n: usize, s: Storage, free: &[u64], chosen: &[u64]
 }
 
 // No slot is open at first.
-pub fn no_slots() -> Slots
-    ensures { λ r. ⌜ (r .n ≡ 0) × (r .list ≡ replicate 256 noSlot) ⌝ }
+pub fn no_slots() -> [Slot; 256]
+    ensures { λ r. ⌜ r ≡ replicate 256 noSlot ⌝ }
 {
     let p = Placement::Flash;
     let s = Slot {
@@ -124,36 +119,14 @@ pub fn no_slots() -> Slots
         len: 0,
         placement: p,
     };
-    let list = [s; 256];
-    Slots { list, n: 0 }
+    [s; 256]
 }
 
 // The placement of slot k.
-pub fn placement_at(slots: Slots, k: usize) -> Placement
+pub fn placement_at(list: [Slot; 256], k: usize) -> Placement
     requires { ⌜ k < 256 ⌝ }
-    ensures { λ r. ⌜ r ≡ getD (slots .list) k noSlot .placement ⌝ }
+    ensures { λ r. ⌜ r ≡ getD list k noSlot .placement ⌝ }
 {
-    let t = slots.list[k];
+    let t = list[k];
     t.placement
-}
-
-// One more slot at the end.
-pub fn append(slots: Slots, t: Slot) -> Slots
-    requires { ⌜ slots .n < 256 ⌝ }
-    ensures { λ r. ⌜ (r .n ≡ slots .n + 1) × (r .list ≡ set (slots .list) (slots .n) t) ⌝ }
-{
-    let n = slots.n;
-    let old = slots.list;
-    let list = put_in(old, n, t);
-    Slots { list, n: n + 1 }
-}
-
-// The first slot that suits a storage and that both rows hold, or n.
-pub fn search(slots: Slots, s: Storage, free: &[u64], chosen: &[u64]) -> usize
-    requires { ⌜ (slots .n ≤ 256) × (length (now free) ≡ 4) × (length (now chosen) ≡ 4) ⌝ }
-    ensures { λ r. ⌜ r ≡ firstOf (passes s (now (free .entry)) (now (chosen .entry))) (slots .list) (slots .n) (slots .n) ⌝ }
-{
-    let list = slots.list;
-    let n = slots.n;
-    walk_of(list, n, s, free, chosen)
 }

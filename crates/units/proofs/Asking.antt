@@ -3,12 +3,11 @@
 use mathlib.Core.Path.{_≡_, refl, sym, ap, ap₂, _∙_}
 use mathlib.Core.Logic.{_⊎_, inl, inr}
 use mathlib.Core.Bool.{Bool, true, false}
-use mathlib.Core.List.{List, [], _++_, append-nil, append-assoc}
+use mathlib.Core.List.{List, [], _++_}
 use Prim.Native.Nat.{ℕ, _+_, _-_, _≤_, _<_}
 use native.Mathlib.Omega.{arith}
 use lib.Dec.{ltb, leb, eqb}
-use lib.ListN.{length, getD, take, drop, replicate, drop-of-length-le}
-use lib.Seq.{getD-drop}
+use lib.ListN.{length, getD, take, drop, replicate}
 use borrow.Author.Tests.{le-ltb, lt-ltb, ne-eqb, le-leb, lt-leb}
 use Rattle.rows.specs.Row.{put, row, pack}
 use Rattle.rows.proofs.Rows.{row-whole}
@@ -111,16 +110,21 @@ module _ (ends : Bool) (op sub : ℕ) where
     pub effect-high-none : (op ≡ 26 → ⊥) → 15 < op → op < 27 → leb 27 op ≡ effect (stepOf ends op sub 0 empty)
     effect-high-none d l k = let q = lt-leb 27 op k in q ∙ sym (pick-no _ _ _ q) ∙ high d l
 
-module _ (f : List ℕ) (at : ℕ) (r : Bool) (h : r ≡ effect (stepOf (eqb (getD f at 0) 7) (getD f (at + 1) 0) (getD f (at + 2) 0) 0 empty)) where
-  effect-there : r ≡ effect (stepFrom f at)
+module _ (t : List ℕ) (r : Bool) (h : r ≡ effect (stepOf (eqb (getD t 0 0) 7) (getD t 1 0) (getD t 2 0) 0 empty)) where
+  effect-there : r ≡ effect (stepFrom t 0)
   unfolding effect u8At
-  effect-there = let k : at + 0 ≡ at = omega arith in rw (getD-drop at f 0 0, getD-drop at f 1 0, getD-drop at f 2 0, k) h
+  effect-there = h
 
-  pub effect-yes : r ≡ true → effects.Yes ≡ yesNo (effect (stepFrom f at))
+  pub effect-yes : r ≡ true → effects.Yes ≡ yesNo (effect (stepFrom t 0))
   effect-yes e = ap yesNo (sym e ∙ effect-there)
 
-  pub effect-no : r ≡ false → effects.No ≡ yesNo (effect (stepFrom f at))
+  pub effect-no : r ≡ false → effects.No ≡ yesNo (effect (stepFrom t 0))
   effect-no e = ap yesNo (sym e ∙ effect-there)
+
+-- the step at the front of a tail of the file
+effect-here : (f t : List ℕ) (at : ℕ) (e : Effect) → t ≡ drop at f → e ≡ yesNo (effect (stepFrom t 0)) → e ≡ yesNo (effect (stepFrom f at))
+unfolding effect
+effect-here f t at e p q = rw p at q
 
 -- The search for the step -----------------------------------------------------------------------------------------------------------------
 
@@ -263,10 +267,11 @@ module _ (f : List ℕ) (place : ℕ) where
       tells-refused x (inl e) h = rw (told-long, e, h, laid-rest 512 [] before)
       tells-refused x (inr e) h = rw (told-long, e .accepted, e .away, e .says, h, laid-rest 512 [] before)
 
-      pub tells-here : (own here : Cursor) (e : Effect) → Reached f place own here words found → e ≡ yesNo (effect (stepFrom f (here .at))) → Tells f place before e (words ++ drop 512 before)
-      tells-here own here e h q =
+      pub tells-here : (own here : Cursor) (e : Effect) (t : List ℕ) → Reached f place own here words found → t ≡ drop (here .at) f → e ≡ yesNo (effect (stepFrom t 0))
+          → Tells f place before e (words ++ drop 512 before)
+      tells-here own here e t h p q =
           let l = h .located in
-          let k : e ≡ yesNo (effect (stepFrom f place)) = rw (l .4) at q in
+          let k : e ≡ yesNo (effect (stepFrom f place)) = rw (l .4) at (effect-here f t (here .at) e p q) in
           rw (told-long, h .accepted, l .1, k, h .words-are, laid-rest 512 (h .us) before)
 
   -- Any two outcomes that the contract of a query permits coincide.

@@ -4,16 +4,16 @@ use mathlib.Core.Path.{_≡_, refl, sym, ap, _∙_}
 use mathlib.Core.Logic.{inl, inr}
 use mathlib.Core.Bool.{Bool, true, false, true≢false, _||_}
 use mathlib.Core.List.{List, [], _∷_, map}
-use Prim.Native.Nat.{ℕ, zero, suc, _+_, _-_, _≤_, _<_}
+use Prim.Native.Nat.{ℕ, zero, suc, _+_, _*_, _≤_, _<_}
 use native.Mathlib.Omega.{arith}
 use lib.Dec.{ltb, leb, eqb}
 use lib.ListN.{length, getD, take, drop, replicate, length-drop, length-map}
-use lib.Seq.{drop-nil, drop-drop, getD-drop}
+use lib.Seq.{drop-drop, getD-drop}
 use borrow.Author.Tests.{ltb-true, ltb-false, leb-true, eqb-true, eqb-false, eq-eqb, ne-eqb, le-ltb, lt-ltb, le-leb, lt-leb}
 use Rattle.rows.specs.Row.{withAt, pack}
 use Rattle.rows.proofs.Pack.{pack-ext, pack-none, pack-with-at}
 use Rattle.rows.proofs.Members.{length-with-at}
-use Rattle.records.specs.Pick.{pick, pick-yes, pick-no, _and_, _or_, has, All}
+use Rattle.records.specs.Pick.{pick, pick-no, _and_, _or_, has, All}
 use Rattle.records.specs.Edition.{one}
 use Rattle.records.specs.Record.{Abi, Operand, Rec, header, storage, function, abi, block, instruction, operand, terminator, target, end, Read, whole, fault, read, recordAt, u8At, lengthOf, wordOf, headerAt, abiIn, operandIn, instructionAt, terminatorAt}
 use Rattle.records.specs.Units.{numberIn, noUnit}
@@ -29,7 +29,7 @@ use Rattle.units.specs.Sets.{select}
 use Rattle.units.specs.Uses.{unitsIn, unitsOf}
 use Rattle.units.specs.Rows.{listed, unitRow}
 use Rattle.units.specs.Along.{from, numbersIn, Stands, IsStep, brought}
-use Rattle.units.specs.Marks.{jotted, marks, rolesFrom, fieldsFrom, sevenAt}
+use Rattle.units.specs.Marks.{jotted, marks, rolesIn, fieldsIn, opensSeven}
 use Rattle.units.proofs.Standing.{aligned, stands-inside, units-once, units-most, stands-on}
 
 -- The record at a place, by its kind ---------------------------------------------------------------------------------------------------------
@@ -117,13 +117,72 @@ pub rest-fault : (t : List ℕ) → read one t ≡ fault → rest one t ≡ empt
 unfolding gather
 rest-fault t e = ap gather (records-fault t e)
 
--- nothing is left past the end
-pub drop-past : (f : List ℕ) (at : ℕ) → length f ≤ at → drop at f ≡ []
-drop-past [] at l = drop-nil at
-drop-past (x ∷ f) zero l = absurd (omega arith)
-drop-past (x ∷ f) (suc at) l = drop-past f at (omega arith)
-
 -- The records of seven bytes -------------------------------------------------------------------------------------------------------------------
+
+module _ (t : List ℕ) where
+  module _ (kind : ℕ) (seven : lengthOf one kind ≡ 7) where
+    seven-whole : opensSeven t kind ≡ true → (u8At t 0 ≡ kind) × (read one t ≡ whole 7 (recordAt one t))
+    unfolding opensSeven
+    seven-whole e =
+        let h = and-both _ _ e in
+        let k : u8At t 0 ≡ kind = eqb-true _ _ (h .1) in
+        let l : lengthOf one (u8At t 0) ≡ 7 = ap (lengthOf one) k ∙ seven in
+        let m : 7 ≤ length t = leb-true _ _ (h .0) in
+        (k, whole-read one t (omega arith) (omega arith) ∙ ap (λ (n : ℕ). whole n (recordAt one t)) l)
+
+    seven-not : opensSeven t kind ≡ false → (len : ℕ) (x : Rec) → read one t ≡ whole len x → kindOf x ≡ kind → ⊥
+    unfolding opensSeven pick
+    seven-not e len x r q =
+        let w = read-whole one t len x r in
+        let k : u8At t 0 ≡ kind = sym (kind-of t (omega (arith, w .some, w .long))) ∙ ap kindOf (sym (w .is)) ∙ q in
+        let l : len ≡ 7 = w .long ∙ ap (lengthOf one) k ∙ seven in
+        let a : leb 7 (length t) ≡ true = le-leb 7 (length t) (omega (arith, w .fits)) in
+        let b : eqb (u8At t 0) kind ≡ true = eq-eqb _ _ k in
+        true≢false (sym (rw (a, b) refl) ∙ e)
+
+  operand-here : opensSeven t 6 ≡ true → read one t ≡ whole 7 (operand (operandIn t))
+  operand-here e = let h = seven-whole 6 (length-one 6) e in h .1 ∙ ap (whole 7) (kind-operand t (h .0))
+
+  abi-here : opensSeven t 3 ≡ true → read one t ≡ whole 7 (abi (abiIn t))
+  abi-here e = let h = seven-whole 3 (length-one 3) e in h .1 ∙ ap (whole 7) (kind-abi t (h .0))
+
+  fields-some : opensSeven t 6 ≡ true → fieldsIn t ≡ u8At t 1 ∷ fieldsIn (drop 7 t)
+  unfolding fieldsIn put operandIn
+  fields-some e = rw (rest-whole one t 7 (operand (operandIn t)) (operand-here e))
+
+  roles-some : opensSeven t 3 ≡ true → rolesIn t ≡ u8At t 1 ∷ rolesIn (drop 7 t)
+  unfolding rolesIn put abiIn
+  roles-some e = rw (rest-whole one t 7 (abi (abiIn t)) (abi-here e))
+
+  pub fields-none : opensSeven t 6 ≡ false → fieldsIn t ≡ []
+  unfolding fieldsIn
+  fields-none e = go (read one t) refl
+    where
+      go : (rd : Read) → read one t ≡ rd → map (λ (o : Operand). o .field) (rest one t .operands) ≡ []
+      go fault r = ap (λ (y : Rest). map (λ (o : Operand). o .field) (y .operands)) (rest-fault t r)
+      go (whole len x) r =
+          ap (λ (y : Rest). map (λ (o : Operand). o .field) (y .operands)) (rest-whole one t len x r)
+          ∙ ap (map (λ (o : Operand). o .field)) (no-operands (rest one (drop len t)) x (seven-not 6 (length-one 6) e len x r))
+
+  pub roles-none : opensSeven t 3 ≡ false → rolesIn t ≡ []
+  unfolding rolesIn
+  roles-none e = go (read one t) refl
+    where
+      go : (rd : Read) → read one t ≡ rd → map (λ (a : Abi). a .role) (rest one t .abis) ≡ []
+      go fault r = ap (λ (y : Rest). map (λ (a : Abi). a .role) (y .abis)) (rest-fault t r)
+      go (whole len x) r =
+          ap (λ (y : Rest). map (λ (a : Abi). a .role) (y .abis)) (rest-whole one t len x r)
+          ∙ ap (map (λ (a : Abi). a .role)) (no-abis (rest one (drop len t)) x (seven-not 3 (length-one 3) e len x r))
+
+  pub fields-count : length (fieldsIn t) ≡ length (rest one t .operands)
+  unfolding fieldsIn
+  fields-count = length-map (rest one t .operands) (λ (o : Operand). o .field)
+
+pub roles-far : (f : List ℕ) (at : ℕ) → length f ≤ at → rolesIn (drop at f) ≡ []
+unfolding opensSeven
+roles-far f at l = roles-none (drop at f) (pick-no _ _ _ (lt-leb 7 (length (drop at f)) (simp length-drop (omega arith))))
+
+-- A place in a list of bytes -------------------------------------------------------------------------------------------------------------------
 
 module _ (f : List ℕ) (at : ℕ) where
   pub first-byte : u8At (drop at f) 0 ≡ getD f at 0
@@ -134,104 +193,33 @@ module _ (f : List ℕ) (at : ℕ) where
   unfolding u8At
   byte-at i = getD-drop at f i 0
 
-  module _ (kind : ℕ) (seven : lengthOf one kind ≡ 7) where
-    seven-whole : sevenAt f at kind ≡ true → (u8At (drop at f) 0 ≡ kind) × (read one (drop at f) ≡ whole 7 (recordAt one (drop at f)))
-    unfolding sevenAt
-    seven-whole e =
-        let h = and-both _ _ e in
-        let k : u8At (drop at f) 0 ≡ kind = first-byte ∙ eqb-true _ _ (h .1) in
-        let l : lengthOf one (u8At (drop at f) 0) ≡ 7 = ap (lengthOf one) k ∙ seven in
-        let m : at + 7 ≤ length f = leb-true _ _ (h .0) in
-        (k, whole-read one (drop at f) (omega arith) (omega (arith, length-drop at f)) ∙ ap (λ (n : ℕ). whole n (recordAt one (drop at f))) l)
+  -- what the code's test says of a place
+  pub opened : (t : List ℕ) (kind : ℕ) (b x : Bool) → t ≡ drop at f → b ≡ opensSeven t kind → b ≡ x → opensSeven (drop at f) kind ≡ x
+  opened t kind b x e p q = ap (λ (l : List ℕ). opensSeven l kind) (sym e) ∙ sym p ∙ q
 
-    seven-not : sevenAt f at kind ≡ false → (len : ℕ) (x : Rec) → read one (drop at f) ≡ whole len x → kindOf x ≡ kind → ⊥
-    unfolding sevenAt pick
-    seven-not e len x r q =
-        let w = read-whole one (drop at f) len x r in
-        let k : u8At (drop at f) 0 ≡ kind = sym (kind-of (drop at f) (omega (arith, w .some, w .long))) ∙ ap kindOf (sym (w .is)) ∙ q in
-        let l : len ≡ 7 = w .long ∙ ap (lengthOf one) k ∙ seven in
-        let m : at + 7 ≤ length f = omega (arith, w .fits, length-drop at f) in
-        let a : leb (at + 7) (length f) ≡ true = le-leb _ _ m in
-        let b : eqb (getD f at 0) kind ≡ true = eq-eqb _ _ (sym first-byte ∙ k) in
-        true≢false (sym (rw (a, b) refl) ∙ e)
+  pub seven-fits : (kind : ℕ) → opensSeven (drop at f) kind ≡ true → at + 7 ≤ length f
+  unfolding opensSeven
+  seven-fits kind e = omega (arith, leb-true 7 (length (drop at f)) (and-both _ _ e .0), length-drop at f)
 
-  length-three : lengthOf one 3 ≡ 7
-  length-three = length-one 3
+  -- one record more at a place, and those behind it
+  pub fields-on : opensSeven (drop at f) 6 ≡ true → fieldsIn (drop at f) ≡ getD f (at + 1) 0 ∷ fieldsIn (drop (at + 7) f)
+  fields-on e = rw (fields-some (drop at f) e, byte-at 1, drop-drop 7 at f)
 
-  length-six : lengthOf one 6 ≡ 7
-  length-six = length-one 6
+  pub roles-on : opensSeven (drop at f) 3 ≡ true → rolesIn (drop at f) ≡ getD f (at + 1) 0 ∷ rolesIn (drop (at + 7) f)
+  roles-on e = rw (roles-some (drop at f) e, byte-at 1, drop-drop 7 at f)
 
-  pub seven-fits : (kind : ℕ) → sevenAt f at kind ≡ true → at + 7 ≤ length f
-  unfolding sevenAt
-  seven-fits kind e = leb-true _ _ (and-both _ _ e .0)
-
-  -- what the code answers
-  pub seven-past : (kind : ℕ) → length f ≤ at → false ≡ sevenAt f at kind
-  unfolding sevenAt
-  seven-past kind l = sym (pick-no _ _ _ (lt-leb (at + 7) (length f) (omega arith)))
-
-  pub seven-short : (kind : ℕ) → length f - at < 7 → false ≡ sevenAt f at kind
-  unfolding sevenAt
-  seven-short kind l = sym (pick-no _ _ _ (lt-leb (at + 7) (length f) (omega arith)))
-
-  pub seven-is : (kind : ℕ) → 7 ≤ length f - at → eqb (getD f at 0) kind ≡ sevenAt f at kind
-  unfolding sevenAt
-  seven-is kind l = sym (pick-yes _ _ _ (le-leb (at + 7) (length f) (omega arith)))
-
-  behind : drop 7 (drop at f) ≡ drop (at + 7) f
-  behind = drop-drop 7 at f
-
-  operand-here : sevenAt f at 6 ≡ true → read one (drop at f) ≡ whole 7 (operand (operandIn (drop at f)))
-  operand-here e = let h = seven-whole 6 length-six e in h .1 ∙ ap (whole 7) (kind-operand (drop at f) (h .0))
-
-  abi-here : sevenAt f at 3 ≡ true → read one (drop at f) ≡ whole 7 (abi (abiIn (drop at f)))
-  abi-here e = let h = seven-whole 3 length-three e in h .1 ∙ ap (whole 7) (kind-abi (drop at f) (h .0))
-
-  -- a cursor goes on over an operand
-  pub operand-on : (us : List ℕ) → check one f ≡ units us → (k : ℕ) → sevenAt f at 6 ≡ true → Stands f at k → Stands f (at + 7) (k + 1)
-  operand-on us ok k e s = stands-on f us ok at k s 7 (operand (operandIn (drop at f))) (operand-here e)
-
-  pub fields-some : sevenAt f at 6 ≡ true → fieldsFrom f at ≡ getD f (at + 1) 0 ∷ fieldsFrom f (at + 7)
-  unfolding fieldsFrom put operandIn
-  fields-some e =
-      let g : from f at ≡ put (operand (operandIn (drop at f))) (from f (at + 7)) =
-      rest-whole one (drop at f) 7 (operand (operandIn (drop at f))) (operand-here e) ∙ ap (λ (t : List ℕ). put (operand (operandIn (drop at f))) (rest one t)) behind in
-      rw (g, byte-at 1)
-
-  pub roles-some : sevenAt f at 3 ≡ true → rolesFrom f at ≡ getD f (at + 1) 0 ∷ rolesFrom f (at + 7)
-  unfolding rolesFrom put abiIn
-  roles-some e =
-      let g : from f at ≡ put (abi (abiIn (drop at f))) (from f (at + 7)) =
-      rest-whole one (drop at f) 7 (abi (abiIn (drop at f))) (abi-here e) ∙ ap (λ (t : List ℕ). put (abi (abiIn (drop at f))) (rest one t)) behind in
-      rw (g, byte-at 1)
-
-  pub fields-none : sevenAt f at 6 ≡ false → fieldsFrom f at ≡ []
-  unfolding fieldsFrom
-  fields-none e = go (read one (drop at f)) refl
-    where
-      go : (rd : Read) → read one (drop at f) ≡ rd → map (λ (o : Operand). o .field) (from f at .operands) ≡ []
-      go fault r = ap (λ (y : Rest). map (λ (o : Operand). o .field) (y .operands)) (rest-fault (drop at f) r)
-      go (whole len x) r =
-          ap (λ (y : Rest). map (λ (o : Operand). o .field) (y .operands)) (rest-whole one (drop at f) len x r)
-          ∙ ap (map (λ (o : Operand). o .field)) (no-operands (rest one (drop len (drop at f))) x (seven-not 6 length-six e len x r))
-
-  pub roles-none : sevenAt f at 3 ≡ false → rolesFrom f at ≡ []
-  unfolding rolesFrom
-  roles-none e = go (read one (drop at f)) refl
-    where
-      go : (rd : Read) → read one (drop at f) ≡ rd → map (λ (a : Abi). a .role) (from f at .abis) ≡ []
-      go fault r = ap (λ (y : Rest). map (λ (a : Abi). a .role) (y .abis)) (rest-fault (drop at f) r)
-      go (whole len x) r =
-          ap (λ (y : Rest). map (λ (a : Abi). a .role) (y .abis)) (rest-whole one (drop at f) len x r)
-          ∙ ap (map (λ (a : Abi). a .role)) (no-abis (rest one (drop len (drop at f))) x (seven-not 3 length-three e len x r))
-
-  pub roles-far : length f ≤ at → rolesFrom f at ≡ []
-  unfolding sevenAt
-  roles-far l = roles-none (pick-no _ _ _ (lt-leb (at + 7) (length f) (omega arith)))
-
-pub fields-count : (f : List ℕ) (at : ℕ) → length (fieldsFrom f at) ≡ length (from f at .operands)
-unfolding fieldsFrom
-fields-count f at = length-map (from f at .operands) (λ (o : Operand). o .field)
+-- a cursor goes on over the operands
+pub operands-on : (f us : List ℕ) → check one f ≡ units us → (n at k : ℕ) → n ≡ length (fieldsIn (drop at f)) → Stands f at k → Stands f (at + 7 * n) (k + n)
+operands-on f us ok zero at k e s = let a : at + 0 ≡ at = omega arith in let b : k + 0 ≡ k = omega arith in rw (a, b) s
+operands-on f us ok (suc n) at k e s = go (opensSeven (drop at f) 6) refl (operands-on f us ok n (at + 7) (k + 1))
+  where
+    go : (t : Bool) → opensSeven (drop at f) 6 ≡ t → (n ≡ length (fieldsIn (drop (at + 7) f)) → Stands f (at + 7) (k + 1) → Stands f (at + 7 + 7 * n) (k + 1 + n))
+        → Stands f (at + 7 * suc n) (k + suc n)
+    go false h on = absurd (omega (arith, ap length (fields-none (drop at f) h)))
+    go true h on =
+        let a : at + 7 * suc n ≡ at + 7 + 7 * n = omega arith in
+        let b : k + suc n ≡ k + 1 + n = omega arith in
+        rw (a, b) (on (omega (arith, ap length (fields-on f at h))) (stands-on f us ok at k s 7 (operand (operandIn (drop at f))) (operand-here (drop at f) h)))
 
 -- a cursor goes on over a step's own record
 pub step-on : (f us : List ℕ) → check one f ≡ units us → (at k : ℕ) → IsStep f at → at + 4 ≤ length f → Stands f at k → Stands f (at + 4) k
@@ -449,8 +437,8 @@ abis-chosen t (a ∷ xs) = go (t (a .role)) (abis-chosen t xs)
 
 -- LAW. In an accepted file the row filled from a cursor is the row of the units of the records there.
 module _ (f us found : List ℕ) (ok : check one f ≡ units us) (same : take (length (numbers one f)) found ≡ numbers one f) (at k : ℕ) (s : Stands f at k) (t : ℕ → Bool) where
-  pub operand-marks : marks t found k (fieldsFrom f at) (replicate 8 0) ≡ unitRow one us (unitsIn one t (from f at .operands))
-  unfolding fieldsFrom
+  pub operand-marks : marks t found k (fieldsIn (drop at f)) (replicate 8 0) ≡ unitRow one us (unitsIn one t (from f at .operands))
+  unfolding fieldsIn
   operand-marks =
       let i = stands-inside f us ok at k s in
       let b = beside-operands us found (i .ids) (records one (drop at f)) k (aligned f us found ok same at k s) (i .holds .operands) in
@@ -458,8 +446,8 @@ module _ (f us found : List ℕ) (ok : check one f ≡ units us) (same : take (l
       ∙ fill-units us (units-once f us ok) (units-most f us ok) t found (map ofOperand (from f at .operands)) k b
       ∙ ap (unitRow one us) (operands-chosen t (from f at .operands))
 
-  pub abi-marks : marks t found k (rolesFrom f at) (replicate 8 0) ≡ unitRow one us (unitsOf one t (from f at .abis))
-  unfolding rolesFrom
+  pub abi-marks : marks t found k (rolesIn (drop at f)) (replicate 8 0) ≡ unitRow one us (unitsOf one t (from f at .abis))
+  unfolding rolesIn
   abi-marks =
       let i = stands-inside f us ok at k s in
       let b = beside-abis us found (i .ids) (records one (drop at f)) k (aligned f us found ok same at k s) (i .holds .abis) in

@@ -21,7 +21,7 @@ use Rattle.units.specs.Uses.{lookup, defined}
 use Rattle.units.specs.Along.{from, Stands, functionFrom, Indexed, Sane, brought, broughtBy}
 use Rattle.units.specs.Marks.{onwardIn, enteredIn}
 use Rattle.units.proofs.Standing.{stands-start, stands-on, brought-long, brought-kind}
-use Rattle.units.proofs.Filling.{kindOf, kind-of, same-functions, rest-fault, drop-past, first-byte, byte-at}
+use Rattle.units.proofs.Filling.{kindOf, kind-of, same-functions, rest-fault, first-byte, byte-at}
 
 -- An empty table ----------------------------------------------------------------------------------------------------------------------------------
 
@@ -111,35 +111,27 @@ onward-none t len e z = go (read one t) refl
             ap (λ (y : Rest). y .functions) (rest-whole one t n x r) ∙ end-stops (rest one (drop n t)) x (w .is ∙ kind-end t (eqb-true (u8At t 0) 9 q))
 
 -- what the code answers
-module _ (f : List ℕ) (at : ℕ) where
-  pub onward-past : length f ≤ at → 0 ≡ onwardIn (drop at f)
+pub onward-past : (t : List ℕ) → length t ≡ 0 → 0 ≡ onwardIn t
+unfolding onwardIn u8At
+onward-past [] e = sym (pick-no _ _ _ (lt-leb (lengthOf one 0) 0 (omega (arith, length-one 0))))
+onward-past (x ∷ t) e = absurd (omega arith)
+
+module _ (t : List ℕ) where
+  pub onward-short : (len : ℕ) → len ≡ lengthOf one (getD t 0 0) → length t < len → 0 ≡ onwardIn t
   unfolding onwardIn u8At
-  onward-past l = sym (pick-no _ _ _ (lt-leb _ (length (drop at f)) (omega (arith, length-drop at f, long))))
+  onward-short len e l = sym (pick-no _ _ _ (lt-leb (lengthOf one (getD t 0 0)) (length t) (omega arith)))
+
+  pub onward-end : getD t 0 0 ≡ 9 → 0 ≡ onwardIn t
+  unfolding onwardIn u8At pick
+  onward-end e = go (leb (lengthOf one (getD t 0 0)) (length t))
     where
-      none : drop at f ≡ []
-      none = drop-past f at l
-
-      long : lengthOf one (u8At (drop at f) 0) ≡ 7
-      long = ap (λ (t : List ℕ). lengthOf one (getD t 0 0)) none ∙ length-one 0
-
-  pub onward-short : (len : ℕ) → len ≡ lengthOf one (getD f at 0) → length f - at < len → 0 ≡ onwardIn (drop at f)
-  unfolding onwardIn
-  onward-short len e l = sym (pick-no _ _ _ (lt-leb (lengthOf one (u8At (drop at f) 0)) (length (drop at f)) (omega (arith, length-drop at f, e, ap (lengthOf one) (first-byte f at)))))
-
-  pub onward-end : getD f at 0 ≡ 9 → 0 ≡ onwardIn (drop at f)
-  unfolding onwardIn pick
-  onward-end e = go (leb (lengthOf one (u8At (drop at f) 0)) (length (drop at f)))
-    where
-      go : (a : Bool) → 0 ≡ pick a (pick (eqb (u8At (drop at f) 0) 9) 0 (lengthOf one (u8At (drop at f) 0))) 0
-      go true = rw (eq-eqb (u8At (drop at f) 0) 9 (first-byte f at ∙ e))
+      go : (a : Bool) → 0 ≡ pick a (pick (eqb (getD t 0 0) 9) 0 (lengthOf one (getD t 0 0))) 0
+      go true = rw (eq-eqb (getD t 0 0) 9 e)
       go false = refl
 
-  pub onward-is : (len : ℕ) → len ≡ lengthOf one (getD f at 0) → len ≤ length f - at → (getD f at 0 ≡ 9 → ⊥) → len ≡ onwardIn (drop at f)
-  unfolding onwardIn
-  onward-is len e l n =
-      e ∙ ap (lengthOf one) (sym (first-byte f at))
-      ∙ sym (pick-yes _ _ _ (le-leb (lengthOf one (u8At (drop at f) 0)) (length (drop at f)) (omega (arith, length-drop at f, e, ap (lengthOf one) (first-byte f at))))
-      ∙ pick-no _ _ _ (ne-eqb (u8At (drop at f) 0) 9 (λ q. n (sym (first-byte f at) ∙ q))))
+  pub onward-is : (len : ℕ) → len ≡ lengthOf one (getD t 0 0) → len ≤ length t → (getD t 0 0 ≡ 9 → ⊥) → len ≡ onwardIn t
+  unfolding onwardIn u8At
+  onward-is len e l n = e ∙ sym (pick-yes _ _ _ (le-leb (lengthOf one (getD t 0 0)) (length t) (omega arith)) ∙ pick-no _ _ _ (ne-eqb (getD t 0 0) 9 n))
 
 -- The walk ----------------------------------------------------------------------------------------------------------------------------------------
 

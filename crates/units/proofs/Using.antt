@@ -3,11 +3,12 @@
 use mathlib.Core.Path.{_≡_, refl, sym, ap, _∙_}
 use mathlib.Core.Bool.{Bool, true, false, true≢false}
 use mathlib.Core.List.{List, [], _∷_, _++_}
-use Prim.Native.Nat.{ℕ, zero, suc, _+_, _/_, _%_, _^_, _≤_, _<_}
+use Prim.Native.Nat.{ℕ, zero, suc, _+_, _*_, _/_, _%_, _^_, _≤_, _<_}
 use native.Mathlib.Omega.{arith}
 use native.Mathlib.Nat.{pow-succ', one-le-pow}
 use lib.Dec.{ltb, eqb}
-use lib.ListN.{length, getD, replicate}
+use lib.ListN.{length, getD, drop, replicate, length-drop, drop-of-length-le}
+use lib.Seq.{drop-drop}
 use borrow.Author.Tests.{eqb-true, eqb-false}
 use Rattle.rows.specs.Row.{put}
 use Rattle.rows.proofs.Pack.{pack-ext, pack-none}
@@ -15,7 +16,7 @@ use Rattle.records.specs.Pick.{pick, _and_, has}
 use Rattle.records.specs.Edition.{one}
 use Rattle.records.specs.Fields.{Field, noField, table, branchFields, fieldsOf, endFieldsOf}
 use Rattle.records.specs.Table.{byteOf, rowWord, fieldRows, endRow, entryOf, above}
-use Rattle.records.specs.Record.{Abi}
+use Rattle.records.specs.Record.{Abi, u8At}
 use Rattle.records.specs.Step.{fieldAt}
 use Rattle.records.specs.Program.{Function, program, rowBy, stepOf}
 use Rattle.records.proofs.Front.{and-both}
@@ -24,9 +25,9 @@ use Rattle.units.specs.Sets.{select}
 use Rattle.units.specs.Uses.{isResult, unitsIn, unitsOf, Lookup, lookup, abisBy, abisOf, readsField, writesField, reads, writes}
 use Rattle.units.specs.Rows.{unitRow}
 use Rattle.units.specs.Along.{from, Stands, StandsAt, stepFrom, IsStep, Sound, Ready}
-use Rattle.units.specs.Marks.{jotted, marks, rolesFrom, fieldsFrom, wantedBy, readIn, writtenIn, farAway, readSource, writtenSource, readRole}
+use Rattle.units.specs.Marks.{jotted, marks, Behind, rolesIn, fieldsIn, wantedBy, readIn, writtenIn, farAway, readSource, writtenSource, readRole}
 use Rattle.units.specs.declared.cursor.Cursor.{Cursor}
-use Rattle.units.proofs.Filling.{drop-past, roles-far, operand-marks, abi-marks, first-byte, byte-at, step-on}
+use Rattle.units.proofs.Filling.{roles-far, fields-count, operands-on, step-on, operand-marks, abi-marks}
 
 -- The fields of a row ----------------------------------------------------------------------------------------------------------------------------
 
@@ -123,7 +124,7 @@ module _ (ns : List ℕ) where
   marks-none t h [] k row = refl
   marks-none t h (x ∷ xs) k row = rw (h x) (marks-none t h xs (k + 1) row)
 
-  marks-far : (t : ℕ → Bool) (f row : List ℕ) (k : ℕ) → length f ≤ 65535 → marks t ns k (rolesFrom f 65535) row ≡ row
+  marks-far : (t : ℕ → Bool) (f row : List ℕ) (k : ℕ) → length f ≤ 65535 → marks t ns k (rolesIn (drop 65535 f)) row ≡ row
   unfolding marks
   marks-far t f row k l = rw (roles-far f 65535 l)
 
@@ -139,15 +140,15 @@ no-units us = sym (pack-none 8) ∙ pack-ext 8 _ _ (λ n l. go (ltb n (length us
 
 module _ (f us found tb : List ℕ) (ready : Ready f us found tb) (short : length f ≤ 16384) where
   callee-marks : (t : ℕ → Bool) (n at k : ℕ) → n < 256 → at ≡ getD tb n 0 → k ≡ getD tb (256 + n) 0
-      → marks t found k (rolesFrom f at) (replicate 8 0) ≡ unitRow one us (unitsOf one t (abisOf (program one f .functions) n))
+      → marks t found k (rolesIn (drop at f)) (replicate 8 0) ≡ unitRow one us (unitsOf one t (abisOf (program one f .functions) n))
   unfolding abisOf unitsOf select
   callee-marks t n at k low a b = rw (a, b) (go (eqb (getD tb n 0) 65535) refl)
     where
       go : (x : Bool) → eqb (getD tb n 0) 65535 ≡ x
-          → marks t found (getD tb (256 + n) 0) (rolesFrom f (getD tb n 0)) (replicate 8 0) ≡ unitRow one us (unitsOf one t (abisBy (lookup (program one f .functions) n)))
+          → marks t found (getD tb (256 + n) 0) (rolesIn (drop (getD tb n 0) f)) (replicate 8 0) ≡ unitRow one us (unitsOf one t (abisBy (lookup (program one f .functions) n)))
       go true e =
           let far : getD tb n 0 ≡ 65535 = eqb-true (getD tb n 0) 65535 e in
-          ap (λ (i : ℕ). marks t found (getD tb (256 + n) 0) (rolesFrom f i) (replicate 8 0)) far
+          ap (λ (i : ℕ). marks t found (getD tb (256 + n) 0) (rolesIn (drop i f)) (replicate 8 0)) far
           ∙ marks-far found t f (replicate 8 0) (getD tb (256 + n) 0) (omega arith) ∙ no-units us
           ∙ ap (λ (x : Lookup). unitRow one us (unitsOf one t (abisBy x))) (sym (ready .index .absent n low far))
       go false e =
@@ -170,31 +171,31 @@ module _ (f us found tb : List ℕ) (ready : Ready f us found tb) (short : lengt
       (stands-own : StandsAt f own) (owns : fn .abis ≡ from f (own .at) .abis) (stands : Stands f at k) where
     abbrev Reads : Bool → ℕ → Type 0
     Reads ends op =
-        marks (readIn (rowWord (rowBy ends op sub))) found k (fieldsFrom f at)
-        (marks (wantedBy (readRole ends op)) found (readSource ends op callee own .k) (rolesFrom f (readSource ends op callee own .at)) (replicate 8 0))
+        marks (readIn (rowWord (rowBy ends op sub))) found k (fieldsIn (drop at f))
+        (marks (wantedBy (readRole ends op)) found (readSource ends op callee own .k) (rolesIn (drop (readSource ends op callee own .at) f)) (replicate 8 0))
         ≡ unitRow one us (reads one (program one f) fn (stepOf ends op sub n (from f at)))
 
     reads-tail-call : Reads true 3
     unfolding reads readRole readSource wantedBy pick endFieldsOf
-    reads-tail-call = fieldless true 3 sub refl (fieldsFrom f at) k _ ∙ callee-marks (wantedBy 0) n (callee .at) (callee .k) low calls calls-k
+    reads-tail-call = fieldless true 3 sub refl (fieldsIn (drop at f)) k _ ∙ callee-marks (wantedBy 0) n (callee .at) (callee .k) low calls calls-k
 
     reads-return : Reads true 5
     unfolding reads readRole readSource wantedBy pick endFieldsOf
     reads-return =
-        fieldless true 5 sub refl (fieldsFrom f at) k _ ∙ abi-marks f us found (ready .accepted) (ready .found-are) (own .at) (own .k) stands-own (wantedBy 1)
+        fieldless true 5 sub refl (fieldsIn (drop at f)) k _ ∙ abi-marks f us found (ready .accepted) (ready .found-are) (own .at) (own .k) stands-own (wantedBy 1)
         ∙ ap (λ (l : List Abi). unitRow one us (unitsOf one isResult l)) (sym owns)
 
     reads-call : Reads false 27
     unfolding reads readRole readSource wantedBy pick fieldsOf table
-    reads-call = fieldless false 27 sub refl (fieldsFrom f at) k _ ∙ callee-marks (wantedBy 0) n (callee .at) (callee .k) low calls calls-k
+    reads-call = fieldless false 27 sub refl (fieldsIn (drop at f)) k _ ∙ callee-marks (wantedBy 0) n (callee .at) (callee .k) low calls calls-k
 
     -- neither a call nor Return
     reads-fields : (t : ℕ → Bool) (ends : Bool) (op : ℕ)
-        → marks (readIn (rowWord (rowBy ends op sub))) found k (fieldsFrom f at) (marks t found 0 (rolesFrom f 65535) (replicate 8 0))
+        → marks (readIn (rowWord (rowBy ends op sub))) found k (fieldsIn (drop at f)) (marks t found 0 (rolesIn (drop 65535 f)) (replicate 8 0))
         ≡ unitRow one us (unitsIn one (readsField (stepOf ends op sub n (from f at))) (from f at .operands))
     reads-fields t ends op =
-        ap (marks (readIn (rowWord (rowBy ends op sub))) found k (fieldsFrom f at)) (marks-far found t f (replicate 8 0) 0 (omega arith))
-        ∙ marks-same found _ _ (read-flag ends op sub) (fieldsFrom f at) k (replicate 8 0)
+        ap (marks (readIn (rowWord (rowBy ends op sub))) found k (fieldsIn (drop at f))) (marks-far found t f (replicate 8 0) 0 (omega arith))
+        ∙ marks-same found _ _ (read-flag ends op sub) (fieldsIn (drop at f)) k (replicate 8 0)
         ∙ operand-marks f us found (ready .accepted) (ready .found-are) at k stands (readsField (stepOf ends op sub n (from f at)))
 
     reads-other-end : (op : ℕ) → eqb op 3 ≡ false → eqb op 5 ≡ false → Reads true op
@@ -220,20 +221,20 @@ module _ (f us found tb : List ℕ) (ready : Ready f us found tb) (short : lengt
 
     abbrev Writes : Bool → ℕ → Type 0
     Writes ends op =
-        marks (writtenIn (rowWord (rowBy ends op sub)) ends) found k (fieldsFrom f at)
-        (marks (wantedBy 2) found (writtenSource ends op callee .k) (rolesFrom f (writtenSource ends op callee .at)) (replicate 8 0))
+        marks (writtenIn (rowWord (rowBy ends op sub)) ends) found k (fieldsIn (drop at f))
+        (marks (wantedBy 2) found (writtenSource ends op callee .k) (rolesIn (drop (writtenSource ends op callee .at) f)) (replicate 8 0))
         ≡ unitRow one us (writes one (program one f) (stepOf ends op sub n (from f at)))
 
     writes-call : Writes false 27
     unfolding writes writtenSource wantedBy pick fieldsOf table
-    writes-call = unwritten false 27 sub refl (fieldsFrom f at) k _ ∙ callee-marks (wantedBy 2) n (callee .at) (callee .k) low calls calls-k
+    writes-call = unwritten false 27 sub refl (fieldsIn (drop at f)) k _ ∙ callee-marks (wantedBy 2) n (callee .at) (callee .k) low calls calls-k
 
     writes-fields : (ends : Bool) (op : ℕ)
-        → marks (writtenIn (rowWord (rowBy ends op sub)) ends) found k (fieldsFrom f at) (marks (wantedBy 2) found 0 (rolesFrom f 65535) (replicate 8 0))
+        → marks (writtenIn (rowWord (rowBy ends op sub)) ends) found k (fieldsIn (drop at f)) (marks (wantedBy 2) found 0 (rolesIn (drop 65535 f)) (replicate 8 0))
         ≡ unitRow one us (unitsIn one (writesField (stepOf ends op sub n (from f at))) (from f at .operands))
     writes-fields ends op =
-        ap (marks (writtenIn (rowWord (rowBy ends op sub)) ends) found k (fieldsFrom f at)) (marks-far found (wantedBy 2) f (replicate 8 0) 0 (omega arith))
-        ∙ marks-same found _ _ (written-flag ends op sub) (fieldsFrom f at) k (replicate 8 0)
+        ap (marks (writtenIn (rowWord (rowBy ends op sub)) ends) found k (fieldsIn (drop at f))) (marks-far found (wantedBy 2) f (replicate 8 0) 0 (omega arith))
+        ∙ marks-same found _ _ (written-flag ends op sub) (fieldsIn (drop at f)) k (replicate 8 0)
         ∙ operand-marks f us found (ready .accepted) (ready .found-are) at k stands (writesField (stepOf ends op sub n (from f at)))
 
     writes-end : (op : ℕ) → Writes true op
@@ -277,31 +278,46 @@ written-sound ends op callee src e c = rw e (go ends (eqb op 27))
 -- a row that was cleared
 pub cleared : (row : List ℕ) → length row ≡ 8 → put row 0 (replicate 8 0) ≡ replicate 8 0
 unfolding put
-cleared row e = ap (λ (l : List ℕ). replicate 8 0 ++ l) (drop-past row 8 (omega arith))
+cleared row e = ap (λ (l : List ℕ). replicate 8 0 ++ l) (drop-of-length-le row {i = 8} (omega arith))
 
-step-is : (f : List ℕ) (at : ℕ) → stepFrom f at ≡ stepOf (eqb (getD f at 0) 7) (getD f (at + 1) 0) (getD f (at + 2) 0) (getD f (at + 3) 0) (from f (at + 4))
-step-is f at = rw (first-byte f at, byte-at f at 1, byte-at f at 2, byte-at f at 3)
+-- what is left of a short file, from a place before which so many numbers fit
+pub rest-fits : (f t : List ℕ) (at k : ℕ) → t ≡ drop at f → length f ≤ 16384 → 7 * k ≤ at → Behind k t
+rest-fits f t at k e l s = rw e (simp length-drop (omega arith))
 
--- LAW. The rows of an accepted file's step, from what each call of the code answers.
-module _ (f found tb : List ℕ) (at k : ℕ) (own callee : Cursor) (short : length f ≤ 16384) (fits : at + 4 ≤ length f) (low : getD f (at + 3) 0 < 256)
-    (calls : callee .at ≡ getD tb (getD f (at + 3) 0) 0) (calls-k : callee .k ≡ getD tb (256 + getD f (at + 3) 0) 0) (fields : ℕ)
-    (row : fields ≡ rowWord (rowBy (eqb (getD f at 0) 7) (getD f (at + 1) 0) (getD f (at + 2) 0))) where
-  module _ (us : List ℕ) (fn : Function) (ready : Ready f us found tb) (stands-own : StandsAt f own) (owns : fn .abis ≡ from f (own .at) .abis) (here : Stands f at k) (is : IsStep f at) where
-    pub behind-step : Stands f (at + 4) k
+-- LAW. The rows of an accepted file's step, from what each call of the code answers. The tail t begins with the step's record, and os behind it.
+module _ (f t os : List ℕ) (at : ℕ) (tail : t ≡ drop at f) (behind : os ≡ drop 4 t) where
+  operands-are : os ≡ drop (at + 4) f
+  operands-are = behind ∙ ap (drop 4) tail ∙ drop-drop 4 at f
+
+  pub operands-count : (n : ℕ) → n ≡ length (fieldsIn os) → n ≡ length (from f (at + 4) .operands)
+  operands-count n e = e ∙ ap (λ (l : List ℕ). length (fieldsIn l)) operands-are ∙ fields-count (drop (at + 4) f)
+
+  step-is : stepFrom f at ≡ stepOf (eqb (getD t 0 0) 7) (getD t 1 0) (getD t 2 0) (getD t 3 0) (from f (at + 4))
+  unfolding u8At
+  step-is = rw tail
+
+  module _ (found tb : List ℕ) (k : ℕ) (own callee : Cursor) (short : length f ≤ 16384) (fits : at + 4 ≤ length f) (low : getD t 3 0 < 256)
+      (calls : callee .at ≡ getD tb (getD t 3 0) 0) (calls-k : callee .k ≡ getD tb (256 + getD t 3 0) 0) (fields : ℕ)
+      (row : fields ≡ rowWord (rowBy (eqb (getD t 0 0) 7) (getD t 1 0) (getD t 2 0)))
+      (us : List ℕ) (fn : Function) (ready : Ready f us found tb) (stands-own : StandsAt f own) (owns : fn .abis ≡ from f (own .at) .abis) (here : Stands f at k) (is : IsStep f at) where
+    behind-step : Stands f (at + 4) k
     behind-step = step-on f us (ready .accepted) at k is fits here
 
-    pub reads-law : (r₀ r₁ r₂ r₃ : List ℕ) (src : Cursor) (role : ℕ) → length r₀ ≡ 8 → r₁ ≡ put r₀ 0 (replicate 8 0)
-        → src ≡ readSource (eqb (getD f at 0) 7) (getD f (at + 1) 0) callee own → role ≡ readRole (eqb (getD f at 0) 7) (getD f (at + 1) 0)
-        → r₂ ≡ marks (wantedBy role) found (src .k) (rolesFrom f (src .at)) r₁ → r₃ ≡ marks (readIn fields) found k (fieldsFrom f (at + 4)) r₂
-        → r₃ ≡ unitRow one us (reads one (program one f) fn (stepFrom f at))
-    reads-law r₀ r₁ r₂ r₃ src role l a b c d e =
-        rw (e, d, c, b, a, cleared r₀ l, row, step-is f at)
-        (reads-are f us found tb ready short fn own callee (getD f (at + 2) 0) (getD f (at + 3) 0) (at + 4) k low calls calls-k stands-own owns behind-step (eqb (getD f at 0) 7) (getD f (at + 1) 0))
+    pub behind-operands : (n : ℕ) → n ≡ length (fieldsIn os) → Stands f (at + 4 + 7 * n) (k + n)
+    behind-operands n e = operands-on f us (ready .accepted) n (at + 4) k (e ∙ ap (λ (l : List ℕ). length (fieldsIn l)) operands-are) behind-step
 
-    pub writes-law : (w₀ w₁ w₂ w₃ : List ℕ) (src : Cursor) → length w₀ ≡ 8 → w₁ ≡ put w₀ 0 (replicate 8 0)
-        → src ≡ writtenSource (eqb (getD f at 0) 7) (getD f (at + 1) 0) callee
-        → w₂ ≡ marks (wantedBy 2) found (src .k) (rolesFrom f (src .at)) w₁ → w₃ ≡ marks (writtenIn fields (eqb (getD f at 0) 7)) found k (fieldsFrom f (at + 4)) w₂
+    pub reads-law : (r₀ r₁ r₂ r₃ abis : List ℕ) (src : Cursor) (role : ℕ) → length r₀ ≡ 8 → r₁ ≡ put r₀ 0 (replicate 8 0)
+        → src ≡ readSource (eqb (getD t 0 0) 7) (getD t 1 0) callee own → role ≡ readRole (eqb (getD t 0 0) 7) (getD t 1 0) → abis ≡ drop (src .at) f
+        → r₂ ≡ marks (wantedBy role) found (src .k) (rolesIn abis) r₁ → r₃ ≡ marks (readIn fields) found k (fieldsIn os) r₂
+        → r₃ ≡ unitRow one us (reads one (program one f) fn (stepFrom f at))
+    reads-law r₀ r₁ r₂ r₃ abis src role l a b c g d e =
+        rw (e, d, g, c, b, a, cleared r₀ l, row, step-is, operands-are)
+        (reads-are f us found tb ready short fn own callee (getD t 2 0) (getD t 3 0) (at + 4) k low calls calls-k stands-own owns behind-step (eqb (getD t 0 0) 7) (getD t 1 0))
+
+    pub writes-law : (w₀ w₁ w₂ w₃ abis : List ℕ) (src : Cursor) → length w₀ ≡ 8 → w₁ ≡ put w₀ 0 (replicate 8 0)
+        → src ≡ writtenSource (eqb (getD t 0 0) 7) (getD t 1 0) callee → abis ≡ drop (src .at) f
+        → w₂ ≡ marks (wantedBy 2) found (src .k) (rolesIn abis) w₁ → w₃ ≡ marks (writtenIn fields (eqb (getD t 0 0) 7)) found k (fieldsIn os) w₂
         → w₃ ≡ unitRow one us (writes one (program one f) (stepFrom f at))
-    writes-law w₀ w₁ w₂ w₃ src l a b d e =
-        rw (e, d, b, a, cleared w₀ l, row, step-is f at)
-        (writes-are f us found tb ready short fn own callee (getD f (at + 2) 0) (getD f (at + 3) 0) (at + 4) k low calls calls-k stands-own owns behind-step (eqb (getD f at 0) 7) (getD f (at + 1) 0))
+    writes-law w₀ w₁ w₂ w₃ abis src l a b g d e =
+        rw (e, d, g, b, a, cleared w₀ l, row, step-is, operands-are)
+        (writes-are f us found tb ready short fn own callee (getD t 2 0) (getD t 3 0) (at + 4) k low calls calls-k stands-own owns behind-step (eqb (getD t 0 0) 7) (getD t 1 0))

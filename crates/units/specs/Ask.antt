@@ -42,6 +42,15 @@ storageReadRow ed p us f s = storageRow ed (reads ed p f s)
 abbrev pub storageWriteRow : Query
 storageWriteRow ed p us f s = storageRow ed (writes ed p s)
 
+-- The same by what is asked for: what the step writes, or what it reads.
+abbrev pub rowOf : Bool → Query
+rowOf true = writeRow
+rowOf false = readRow
+
+abbrev pub storageRowOf : Bool → Query
+storageRowOf true = storageWriteRow
+storageRowOf false = storageReadRow
+
 -- A refusal other than 1 leaves the row as found and the needed words of the units 0.
 abbrev pub askedBy : Query → Edition → List ℕ → ℕ → List ℕ → List ℕ → List ℕ → Found → Asked
 askedBy q ed f place us before row (step fn s) =

@@ -1,15 +1,16 @@
 -- Rows as a walk over records fills them: what the loops of this crate do, for every file. Contracts of its inner functions cite it.
 use mathlib.Core.Bool.{Bool, false}
 use mathlib.Core.List.{List, [], _∷_, map}
-use Prim.Native.Nat.{ℕ, _+_, _/_, _%_, _^_}
+use Prim.Native.Nat.{ℕ, _+_, _*_, _-_, _/_, _%_, _^_, _≤_}
 use lib.Dec.{ltb, leb, eqb}
 use lib.ListN.{length, getD, set}
 use Rattle.rows.specs.Row.{withAt}
 use Rattle.records.specs.Pick.{pick, _and_}
 use Rattle.records.specs.Edition.{one}
 use Rattle.records.specs.Record.{Abi, Operand, u8At, lengthOf}
+use Rattle.records.specs.Check.{records}
+use Rattle.records.specs.Program.{gather}
 use Rattle.units.specs.Uses.{isParameter, isResult, isOutcome}
-use Rattle.units.specs.Along.{from}
 use Rattle.units.specs.declared.cursor.Cursor.{Cursor}
 
 -- A unit's number goes into a row where it is wanted; a number past the last is no unit's.
@@ -21,16 +22,20 @@ unfoldable pub marks : (ℕ → Bool) → List ℕ → ℕ → List ℕ → List
 marks t ns k [] row = row
 marks t ns k (x ∷ xs) row = marks t ns (k + 1) xs (jotted (t x) (getD ns k 0) row)
 
--- The roles of the ABI records at a place, and the fields of the operands at one.
-unfoldable pub rolesFrom : List ℕ → ℕ → List ℕ
-rolesFrom f at = map (λ (a : Abi). a .role) (from f at .abis)
+-- A tail that a file may have behind k unit numbers, each of which took seven bytes: the code's indexes are safe by it.
+abbrev pub Behind : ℕ → List ℕ → Type 0
+Behind k t = length t ≤ 16384 - 7 * k
 
-unfoldable pub fieldsFrom : List ℕ → ℕ → List ℕ
-fieldsFrom f at = map (λ (o : Operand). o .field) (from f at .operands)
+-- The roles of the ABI records at the front of a tail, and the fields of the operands there.
+unfoldable pub rolesIn : List ℕ → List ℕ
+rolesIn t = map (λ (a : Abi). a .role) (gather (records one t) .abis)
 
--- A whole record of seven bytes and of this kind stands at a place.
-unfoldable pub sevenAt : List ℕ → ℕ → ℕ → Bool
-sevenAt f at kind = leb (at + 7) (length f) and eqb (getD f at 0) kind
+unfoldable pub fieldsIn : List ℕ → List ℕ
+fieldsIn t = map (λ (o : Operand). o .field) (gather (records one t) .operands)
+
+-- A whole record of seven bytes and of this kind stands at the front of a tail.
+unfoldable pub opensSeven : List ℕ → ℕ → Bool
+opensSeven t kind = leb 7 (length t) and eqb (u8At t 0) kind
 
 -- The roles that are wanted: parameters, results, or all but parameters.
 unfoldable pub wantedBy : ℕ → ℕ → Bool
@@ -57,7 +62,7 @@ writtenSource ends op callee = pick ends farAway (pick (eqb op 27) callee farAwa
 unfoldable pub readRole : Bool → ℕ → ℕ
 readRole ends op = pick ends (pick (eqb op 5) 1 0) 0
 
--- How long the record at a place is; 0 where none is whole, and at the end record.
+-- How long the record at the front of a tail is; 0 where none is whole, and at the end record.
 unfoldable pub onwardIn : List ℕ → ℕ
 onwardIn t = pick (leb (lengthOf one (u8At t 0)) (length t)) (pick (eqb (u8At t 0) 9) 0 (lengthOf one (u8At t 0))) 0
 

@@ -144,12 +144,12 @@ fn effect_of(ends: bool, op: u8, sub: u8) -> bool
     27 <= op && op <= 29
 }
 
-// The effect of the step whose record begins at `at`.
-pub fn effect_at(file: &[u8], at: usize) -> Effect
-    requires { ⌜ at + 4 ≤ length (now file) ⌝ }
-    ensures { λ r. ⌜ r ≡ yesNo (effect (stepFrom (now (file .entry)) at)) ⌝ }
+// The effect of the step whose record stands at the front of a tail.
+pub fn effect_at(tail: &[u8]) -> Effect
+    requires { ⌜ 4 ≤ length (now tail) ⌝ }
+    ensures { λ r. ⌜ r ≡ yesNo (effect (stepFrom (now (tail .entry)) 0)) ⌝ }
 {
-    if effect_of(file[at] == 7, file[at + 1], file[at + 2]) {
+    if effect_of(tail[0] == 7, tail[1], tail[2]) {
         return Effect::Yes;
     }
     Effect::No

@@ -2,12 +2,13 @@
 ghost use mathlib.Core.Path.{_≡_};
 ghost use mathlib.Core.List.{List};
 ghost use Prim.Native.Nat.{ℕ, _+_, _≤_, _<_};
-ghost use lib.ListN.{length, getD, drop};
+ghost use lib.ListN.{length, getD};
 ghost use Rattle.records.specs.Edition.{one};
 ghost use Rattle.records.specs.Check.{units, check};
 ghost use Rattle.units.specs.Along.{Indexed, Sane, broughtBy};
 ghost use Rattle.units.specs.Marks.{onwardIn, enteredIn};
 use records::bytes::length_of;
+use records::bytes::tail_of;
 
 // What stands in the table where a number has no function.
 const NONE: u16 = 65535;
@@ -40,18 +41,18 @@ pub fn brings(kind: u8) -> usize
     0
 }
 
-// How long the record at a place is; 0 where none is whole, and at the end record.
-fn onward(file: &[u8], at: usize) -> usize
-    ensures { λ r. ⌜ r ≡ onwardIn (drop at (now (file .entry))) ⌝ }
+// How long the record at the front of a tail is; 0 where none is whole, and at the end record.
+fn onward(tail: &[u8]) -> usize
+    ensures { λ r. ⌜ r ≡ onwardIn (now (tail .entry)) ⌝ }
 {
-    if file.len() <= at {
+    if tail.len() == 0 {
         return 0;
     }
-    let len = length_of(file[at]);
-    if file.len() - at < len {
+    let len = length_of(tail[0]);
+    if tail.len() < len {
         return 0;
     }
-    if file[at] == 9 {
+    if tail[0] == 9 {
         return 0;
     }
     len
@@ -81,7 +82,7 @@ pub fn index_functions(file: &[u8], table: &mut [u16])
     blank(table);
     let mut at = 0;
     let mut k = 0;
-    let mut len = onward(file, at);
+    let mut len = onward(tail_of(file, at));
     while 0 < len {
         let kind = file[at];
         if kind == OPERAND {
@@ -92,6 +93,6 @@ pub fn index_functions(file: &[u8], table: &mut [u16])
             k += brings(kind);
             at += len;
         }
-        len = onward(file, at);
+        len = onward(tail_of(file, at));
     }
 }

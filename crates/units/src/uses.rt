@@ -2,16 +2,16 @@
 ghost use mathlib.Core.Path.{_≡_};
 ghost use mathlib.Core.List.{List};
 ghost use Prim.Native.Nat.{ℕ, _+_, _*_, _≤_};
-ghost use lib.ListN.{length, getD};
+ghost use lib.ListN.{length, getD, drop};
 ghost use Rattle.records.specs.Table.{rowWord};
 ghost use Rattle.records.specs.Edition.{one};
-ghost use Rattle.records.specs.Check.{units, check};
 ghost use Rattle.records.specs.Program.{Function, program, rowBy};
 ghost use Rattle.units.specs.Uses.{reads as readsOf, writes as writesOf};
 ghost use Rattle.units.specs.Rows.{unitRow};
 ghost use Rattle.units.specs.Along.{from, stepFrom, IsStep, StandsAt, Sound, Sane, Ready};
-ghost use Rattle.units.specs.Marks.{jotted, marks, rolesFrom, fieldsFrom, sevenAt, wantedBy, readIn, writtenIn, readSource, writtenSource, readRole};
+ghost use Rattle.units.specs.Marks.{jotted, marks, Behind, rolesIn, fieldsIn, opensSeven, wantedBy, readIn, writtenIn, readSource, writtenSource, readRole};
 use crate::cursor::Cursor;
+use records::bytes::tail_of;
 use records::table::end_entry_of;
 use records::table::entry_of;
 use records::table::field_in;
@@ -38,17 +38,24 @@ fn note(row: &mut [u64], n: u16, wanted: bool)
     }
 }
 
-// A whole record of seven bytes and of this kind stands here.
-fn seven(file: &[u8], at: usize, kind: u8) -> bool
-    ensures { λ r. ⌜ r ≡ sevenAt (now (file .entry)) at kind ⌝ }
+// The part of the file from a place onward, empty past the end: a function that is not there has no records.
+fn rest_of(file: &[u8], at: usize) -> &[u8]
+    ensures { λ r. ⌜ now r ≡ drop at (now (file .entry)) ⌝ }
 {
-    if file.len() <= at {
+    if file.len() < at {
+        return tail_of(file, file.len());
+    }
+    tail_of(file, at)
+}
+
+// A whole record of seven bytes and of this kind stands at the front of a tail.
+fn opens_seven(tail: &[u8], kind: u8) -> bool
+    ensures { λ r. ⌜ r ≡ opensSeven (now (tail .entry)) kind ⌝ }
+{
+    if tail.len() < 7 {
         return false;
     }
-    if file.len() - at < 7 {
-        return false;
-    }
-    file[at] == kind
+    tail[0] == kind
 }
 
 fn wanted(role: u8, which: u8) -> bool
@@ -66,17 +73,17 @@ fn wanted(role: u8, which: u8) -> bool
     true
 }
 
-// The units of the ABI records from a cursor on whose roles are wanted.
-fn abi_row(file: &[u8], numbers: &[u16], from: Cursor, which: u8, row: &mut [u64])
-    requires { ⌜ (length (now file) ≤ 16384) × (2341 ≤ length (now numbers)) × Sound from × (length (now row) ≡ 8) ⌝ }
-    ensures { λ _. ⌜ now (row .exit) ≡ marks (wantedBy which) (now (numbers .entry)) (from .k) (rolesFrom (now (file .entry)) (from .at)) (now (row .entry)) ⌝ }
+// The units of the ABI records at the front of a tail whose roles are wanted; their numbers stand from k on.
+fn abi_row(tail: &[u8], numbers: &[u16], k: usize, which: u8, row: &mut [u64])
+    requires { ⌜ Behind k (now tail) × (2341 ≤ length (now numbers)) × (length (now row) ≡ 8) ⌝ }
+    ensures { λ _. ⌜ now (row .exit) ≡ marks (wantedBy which) (now (numbers .entry)) k (rolesIn (now (tail .entry))) (now (row .entry)) ⌝ }
 {
-    let mut at = from.at;
-    let mut k = from.k;
-    while seven(file, at, 3) {
-        note(row, numbers[k], wanted(file[at + 1], which));
+    let mut at = 0;
+    let mut n = k;
+    while opens_seven(tail_of(tail, at), 3) {
+        note(row, numbers[n], wanted(tail[at + 1], which));
         at += 7;
-        k += 1;
+        n += 1;
     }
 }
 
@@ -96,35 +103,32 @@ fn is_written(fields: u64, ends: bool, field: u8) -> bool
     field_in(fields, field) / 32 % 2 == 1
 }
 
-// The units of the operands from a cursor on, by the fields of a row. Answers the cursor behind them.
+// The units of the operands at the front of a tail, by the fields of a row; their numbers stand from k on. Answers how many operands there are.
 fn operand_rows(
-    file: &[u8],
+    tail: &[u8],
     numbers: &[u16],
-    from: Cursor,
+    k: usize,
     fields: u64,
     ends: bool,
     reads: &mut [u64],
     writes: &mut [u64],
-) -> Cursor
-    requires { ⌜ (length (now file) ≤ 16384) × (2341 ≤ length (now numbers)) × Sound from × (from .at ≤ length (now file))
-        × (length (now reads) ≡ 8) × (length (now writes) ≡ 8) ⌝ }
-    ensures { λ r. ⌜ (r .at ≡ from .at + 7 * length (fieldsFrom (now (file .entry)) (from .at))) × (r .k ≡ from .k + length (fieldsFrom (now (file .entry)) (from .at)))
-        × (r .at ≤ length (now (file .entry)))
-        × (now (reads .exit) ≡ marks (readIn fields) (now (numbers .entry)) (from .k) (fieldsFrom (now (file .entry)) (from .at)) (now (reads .entry)))
-        × (now (writes .exit) ≡ marks (writtenIn fields ends) (now (numbers .entry)) (from .k) (fieldsFrom (now (file .entry)) (from .at)) (now (writes .entry)))
-        × ((us : List ℕ) → check one (now (file .entry)) ≡ units us → StandsAt (now (file .entry)) from → StandsAt (now (file .entry)) r) ⌝ }
+) -> usize
+    requires { ⌜ Behind k (now tail) × (2341 ≤ length (now numbers)) × (length (now reads) ≡ 8) × (length (now writes) ≡ 8) ⌝ }
+    ensures { λ r. ⌜ (r ≡ length (fieldsIn (now (tail .entry)))) × (7 * r ≤ length (now (tail .entry)))
+        × (now (reads .exit) ≡ marks (readIn fields) (now (numbers .entry)) k (fieldsIn (now (tail .entry))) (now (reads .entry)))
+        × (now (writes .exit) ≡ marks (writtenIn fields ends) (now (numbers .entry)) k (fieldsIn (now (tail .entry))) (now (writes .entry))) ⌝ }
 {
-    let mut at = from.at;
-    let mut k = from.k;
-    while seven(file, at, 6) {
-        let field = file[at + 1];
-        let n = numbers[k];
-        note(reads, n, is_read(fields, field));
-        note(writes, n, is_written(fields, ends, field));
+    let mut at = 0;
+    let mut n = k;
+    while opens_seven(tail_of(tail, at), 6) {
+        let field = tail[at + 1];
+        let unit = numbers[n];
+        note(reads, unit, is_read(fields, field));
+        note(writes, unit, is_written(fields, ends, field));
         at += 7;
-        k += 1;
+        n += 1;
     }
-    Cursor { at, k }
+    n - k
 }
 
 // The cursor behind the record of function n; far behind every file where there is none.
@@ -217,28 +221,31 @@ pub fn uses_at(
 {
     rows::clear(reads, 0, 8);
     rows::clear(writes, 0, 8);
-    let at = here.at;
-    let ends = file[at] == 7;
-    let op = file[at + 1];
-    let callee = callee_at(table, file[at + 3]);
+    let tail = tail_of(file, here.at);
+    let ends = tail[0] == 7;
+    let op = tail[1];
+    let callee = callee_at(table, tail[3]);
+    let read = read_source(ends, op, callee, own);
     abi_row(
-        file,
+        rest_of(file, read.at),
         numbers,
-        read_source(ends, op, callee, own),
+        read.k,
         read_role(ends, op),
         reads,
     );
+    let written = written_source(ends, op, callee);
     abi_row(
-        file,
+        rest_of(file, written.at),
         numbers,
-        written_source(ends, op, callee),
+        written.k,
         OUTCOMES,
         writes,
     );
-    let fields = fields_of(ends, op, file[at + 2]);
-    let after = Cursor {
-        at: at + 4,
-        k: here.k,
-    };
-    operand_rows(file, numbers, after, fields, ends, reads, writes)
+    let fields = fields_of(ends, op, tail[2]);
+    let operands = tail_of(tail, 4);
+    let count = operand_rows(operands, numbers, here.k, fields, ends, reads, writes);
+    Cursor {
+        at: here.at + 4 + 7 * count,
+        k: here.k + count,
+    }
 }

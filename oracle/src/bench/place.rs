@@ -1,7 +1,7 @@
 //! Times placing as a whole. The library starts from the file and checks it; the original starts from a program in its own
 //! types, analyses it and allocates. Only files that are placed to the last storage are timed.
 
-use super::{made, mean_length, report, timed, Maker, FILES, Timed};
+use super::{made, mean_length, report, timed, Maker, Timed, FILES};
 use crate::draft::Draft;
 use crate::entry::{Library, Placer};
 use crate::generate::{self, chain, limits, realistic, worst};

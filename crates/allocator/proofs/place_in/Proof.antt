@@ -55,9 +55,12 @@ same-length-9 c = search needs
 
 returns-2 : tie.Need-returns-2
 returns-2 c =
-    let g = c .before .before .before .before .before .before .before .before .before .before .before .before .before .before .before .before .before .before .before .before .before .before .before .before .before .before .before in
+    let c10 = c .before .before .before .before .before .before .before .before .before .before in
+    let c17 = c10 .before .before .before .before .before .before .before in
+    let c27 = c17 .before .before .before .before .before .before .before .before .before .before in
+    let g = c27 in
     let p = g .before .before .before .before .before .before .before .before .before .before .before .pre in
-    after-placing _ _ _ _ _ (p .0) (p .1) (p .2) (p .3) _ _ _ _ _ (g .graph .ensures) _ _ _ _ _ _ _ _ (c .before .before .before .before .before .before .before .before .before .before .before .before .before .before .before .before .before .n .given .1) (c .before .before .before .before .before .before .before .before .before .before .place-on .ensures)
+    after-placing _ _ _ _ _ (p .0) (p .1) (p .2) (p .3) _ _ _ _ _ (g .graph .ensures) _ _ _ _ _ _ _ _ (c17 .n .given .1) (c10 .place-on .ensures)
 
 pub place-in-spec : {M : Type 1} → statement M
 place-in-spec =

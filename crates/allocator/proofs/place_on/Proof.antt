@@ -68,10 +68,13 @@ same-length-7 c = search needs
 
 returns-2 : tie.Need-returns-2
 returns-2 c =
-    let a = c .before .before .before .before .before .before .before .before .before .before .before .before .before .before .before .before .before .before .before .before in
+    let c10 = c .before .before .before .before .before .before .before .before .before .before in
+    let c14 = c10 .before .before .before .before in
+    let c20 = c14 .before .before .before .before .before .before in
+    let a = c20 in
     let s = a .before .before .before .before .before .before .before .before .before .before in
-    placed-refused _ _ _ _ _ _ (s .pre .5) _ _ _ (a .allocate .ensures) _ _ _ _ _ (c .before .before .before .before .before .before .before .before .before .before .before .before .before .before .before .before .before .r .given .1) (emptied 512 (s .args .units .now) _ (s .pre .0) (c .before .before .before .before .before .before .before .before .before .before .before .before .before .before .clear .ensures))
-    (cleared-row 2048 _ _ (s .pre .1) (c .before .before .before .before .before .before .before .before .before .before .clear2 .ensures)) (cleared-row 1024 _ _ (s .pre .2) (c .before .before .before .before .before .before .clear3 .ensures))
+    placed-refused _ _ _ _ _ _ (s .pre .5) _ _ _ (a .allocate .ensures) _ _ _ _ _ (c14 .before .before .before .r .given .1) (emptied 512 (s .args .units .now) _ (s .pre .0) (c14 .clear .ensures))
+    (cleared-row 2048 _ _ (s .pre .1) (c10 .clear2 .ensures)) (cleared-row 1024 _ _ (s .pre .2) (c .before .before .before .before .before .before .clear3 .ensures))
     (cleared-row 1024 _ _ (s .pre .3) (c .before .before .clear4 .ensures))
 
 pub place-on-spec : {M : Type 1} → statement M

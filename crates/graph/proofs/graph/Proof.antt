@@ -58,7 +58,10 @@ same-length-4 : tie.Need-same-length-4
 same-length-4 c = search needs
 
 returns-5 : tie.Need-returns-5
-returns-5 c = graphs-all _ _ _ _ _ _ _ _ _ _ (c .before .before .before .before .before .before .before .before .before .before .before .before .before .before .before .before .if1 .left) (c .before .before .before .before .before .before .before .before .before .before .before .before .before .before .before .if2 .left) (c .before .before .before .before .before .before .before .before .before .before .before .before .before .before .if3 .left) (c .before .before .before .before .before .before .before .before .before .before .before .before .before .if4 .left) (c .before .before .before .before .before .before .before .before .graph-in .ensures)
+returns-5 c =
+    let c8 = c .before .before .before .before .before .before .before .before in
+    let c13 = c8 .before .before .before .before .before in
+    graphs-all _ _ _ _ _ _ _ _ _ _ (c13 .before .before .before .if1 .left) (c13 .before .before .if2 .left) (c13 .before .if3 .left) (c13 .if4 .left) (c8 .graph-in .ensures)
 
 pub graph-spec : {M : Type 1} → statement M
 graph-spec =

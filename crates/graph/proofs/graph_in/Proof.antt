@@ -48,7 +48,12 @@ same-length-4 : tie.Need-same-length-4
 same-length-4 c = search needs
 
 returns : tie.Need-returns
-returns c = drawn-refused _ _ _ _ (c .before .before .before .before .before .before .number-units .ensures) _ _ _ _ (c .before .r .given .1) (blank-of 2048 _ _ (c .before .before .before .before .before .before .before .before .before .before .before .before .before .before .before .before .before .before .before .before .before .before .before .before .before .before .pre .1) (c .before .before .before .before .before .before .before .before .before .before .before .before .before .before .before .before .before .before .before .clear .ensures)) (blank-of 1024 _ _ (c .before .before .before .before .before .before .before .before .before .before .before .before .before .before .before .before .before .before .before .before .before .before .before .before .before .before .pre .2) (c .before .before .before .before .before .before .before .before .before .before .before .before .before .before .before .clear2 .ensures)) (blank-of 1024 _ _ (c .before .before .before .before .before .before .before .before .before .before .before .before .before .before .before .before .before .before .before .before .before .before .before .before .before .before .pre .3) (c .before .before .before .before .before .before .before .before .before .before .before .clear3 .ensures))
+returns c =
+    let c11 = c .before .before .before .before .before .before .before .before .before .before .before in
+    let c15 = c11 .before .before .before .before in
+    let c19 = c15 .before .before .before .before in
+    let c26 = c19 .before .before .before .before .before .before .before in
+    drawn-refused _ _ _ _ (c .before .before .before .before .before .before .number-units .ensures) _ _ _ _ (c .before .r .given .1) (blank-of 2048 _ _ (c26 .pre .1) (c19 .clear .ensures)) (blank-of 1024 _ _ (c26 .pre .2) (c15 .clear2 .ensures)) (blank-of 1024 _ _ (c26 .pre .3) (c11 .clear3 .ensures))
 
 same-length-5 : tie.Need-same-length-5
 same-length-5 c = search needs

@@ -26,7 +26,9 @@ same-length c = search needs
 
 returns : tie.Need-returns
 returns c =
-    λ us ok q w. lived-absent (c .before .before .before .before .before .before .before .before .before .before .before .before .before .before .before .args .file .now) _ _ _ (c .before .before .before .before .before .before .own-of .ensures) (λ i. omega (arith, c .before .before .before .before .before .before .before .before .before .before .before .before .before .before .shared-slice-known .given i)) (c .before .before .before .before .before .before .before .before .before .index-functions .ensures .1) us ok _ _ _ (c .before .before .before .before .if1 .taken) (c .before .before .clear .ensures) (c .before .before .before .before .before .before .before .before .before .before .before .before .before .before .before .pre .2) (c .before .before .before .before .before .before .before .before .before .before .before .before .before .before .before .pre .3)
+    let c9 = c .before .before .before .before .before .before .before .before .before in
+    let c14 = c9 .before .before .before .before .before in
+    λ us ok q w. lived-absent (c14 .before .args .file .now) _ _ _ (c .before .before .before .before .before .before .own-of .ensures) (λ i. omega (arith, c14 .shared-slice-known .given i)) (c9 .index-functions .ensures .1) us ok _ _ _ (c .before .before .before .before .if1 .taken) (c .before .before .clear .ensures) (c14 .before .pre .2) (c14 .before .pre .3)
 
 slice-aggregate-passes-of : tie.Need-slice-aggregate-passes-of
 slice-aggregate-passes-of c = search needs
@@ -39,7 +41,9 @@ same-length-2 c = search needs
 
 returns-2 : tie.Need-returns-2
 returns-2 c =
-    λ us ok q w. lived-passes (c .before .before .before .before .before .before .before .before .before .before .before .before .before .before .before .before .args .file .now) _ _ _ (c .before .before .before .before .before .before .before .own-of .ensures) (λ i. omega (arith, c .before .before .before .before .before .before .before .before .before .before .before .before .before .before .before .shared-slice-known .given i)) (c .before .before .before .before .before .before .before .before .before .before .index-functions .ensures .1) us ok _ _ _ _ (c .before .before .before .before .before .if1 .left) q w (c .before .before .passes-of .ensures)
+    let c10 = c .before .before .before .before .before .before .before .before .before .before in
+    let c15 = c10 .before .before .before .before .before in
+    λ us ok q w. lived-passes (c15 .before .args .file .now) _ _ _ (c .before .before .before .before .before .before .before .own-of .ensures) (λ i. omega (arith, c15 .shared-slice-known .given i)) (c10 .index-functions .ensures .1) us ok _ _ _ _ (c .before .before .before .before .before .if1 .left) q w (c .before .before .passes-of .ensures)
 
 pub live-of-spec : {M : Type 1} → statement M
 live-of-spec =

@@ -1,11 +1,11 @@
 -- `maps::first_clear` meets its contract. The inner loop has seen k clear bytes: a byte behind them that is not clear lies in each window from o to o + k,
--- and a map that ends there is too short for each later one. The outer loop has seen no clear window before o, so that the first is the least. Assumes nothing.
+-- none begins before the next clear byte, and a map that ends there is too short for each later one. The outer loop has seen no clear window before o. Assumes nothing.
 use Prim.Native.Nat.{_+_, _-_, _≤_, _<_}
 use native.Mathlib.Omega.{arith}
 use borrow.Author.Count.{below-none, below-more}
 use lib.ListN.{length}
 use Rattle.maps.specs.declared.Found.the-variants.{Nothing, At}
-use Rattle.maps.proofs.Laws.{Clear, NoneBefore, clear-in, none-behind, none-short, window-only}
+use Rattle.maps.proofs.Laws.{Clear, NoneBefore, clear-in, none-behind, none-until, none-short, window-only}
 use Rattle.maps.proofs.first_clear.Statement.{statement}
 use Rattle.maps.proofs.first_clear.Tie as tie
 
@@ -45,26 +45,30 @@ loop-less c = omega arith
 loop-again : tie.Need-loop-again Inv-loop μ-loop Inv-search μ-search
 loop-again c = (omega arith, omega arith, below-more _ _ (c .before .before .before .before .loop .inv .2) (c .if4 .left))
 
-add-o : tie.Need-add-o Inv-loop μ-loop Inv-search μ-search
-add-o c = omega arith
+add-next-clear : tie.Need-add-next-clear Inv-loop μ-loop Inv-search μ-search
+add-next-clear c = omega arith
 
-add-o-2 : tie.Need-add-o-2 Inv-loop μ-loop Inv-search μ-search
-add-o-2 c = omega arith
+add-next-clear-2 : tie.Need-add-next-clear-2 Inv-loop μ-loop Inv-search μ-search
+add-next-clear-2 c = omega arith
+
+next-clear-requires : tie.Need-next-clear-requires Inv-loop μ-loop Inv-search μ-search
+next-clear-requires c κs = omega arith
 
 search-less : tie.Need-search-less Inv-loop μ-loop Inv-search μ-search
-search-less c = omega arith
+search-less c = omega (arith, c .next-clear .ensures .behind)
 
 search-again : tie.Need-search-again Inv-loop μ-loop Inv-search μ-search
-search-again c = none-behind _ _ _ _ (c .before .before .before .before .before .before .search .inv) (omega arith) (c .if4 .taken)
+search-again c =
+    let w = c .before in
+    none-until _ _ _ _ (omega arith) (none-behind _ _ _ _ (w .before .before .before .before .before .before .search .inv) (omega arith) (w .if4 .taken)) (c .next-clear .ensures)
 
 returns : tie.Need-returns Inv-loop μ-loop Inv-search μ-search
 returns c = (window-only _ _ Nothing (λ j l. c .before .search .inv j (omega arith)), tt)
 
 returns-2 : tie.Need-returns-2 Inv-loop μ-loop Inv-search μ-search
 returns-2 c =
-    let a = c .before .before .before .before .args in
+    let a = c .before .before .before .before .before .args in
     let o = c .before .before .before .search .o in
-    let k = c .before .loop .k in
     let clear : Clear (a .map .now) (a .n) o = λ j l. c .before .loop .inv .2 j (omega arith) in
     let fits : o + a .n ≤ length (a .map .now) = omega arith in
     let inside : o < length (a .map .now) = omega arith in
@@ -89,8 +93,9 @@ first-clear-spec =
     add-k
     loop-less
     loop-again
-    add-o
-    add-o-2
+    add-next-clear
+    add-next-clear-2
+    next-clear-requires
     search-less
     search-again
     returns

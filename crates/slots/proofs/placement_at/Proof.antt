@@ -13,15 +13,15 @@ use Rattle.slots.proofs.placement_at.Tie as tie
 mul-t : tie.Need-mul-t
 mul-t c = search needs
 
-element-copy-out-t : tie.Need-element-copy-out-t
-element-copy-out-t c = search needs
+array-copy-out-t : tie.Need-array-copy-out-t
+array-copy-out-t c = search needs
 
 returns : tie.Need-returns
 returns c =
     let a = c .before .args in
-    let long : length (a .t1 .list) ≡ 256 = search (needs, mapped-length) in
-    let h : a .k < length (a .t1 .list) = omega arith in
-    ap (λ (t : Slot). t .placement) (inside-same (a .t1 .list) (a .k) _ _ h)
+    let long : length (a .t1) ≡ 256 = search (needs, mapped-length) in
+    let h : a .k < length (a .t1) = omega arith in
+    ap (λ (t : Slot). t .placement) (inside-same (a .t1) (a .k) _ _ h)
 
 pub placement-at-spec : {M : Type 1} → statement M
-placement-at-spec = tie.close (tie.spec mul-t element-copy-out-t returns)
+placement-at-spec = tie.close (tie.spec mul-t array-copy-out-t returns)

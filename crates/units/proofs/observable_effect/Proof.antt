@@ -2,6 +2,7 @@
 -- The first 512 words are lent on, and what lies past them stays.
 use borrow.Author.Needs.{needs}
 use mathlib.Core.List.{[]}
+use native.Mathlib.Omega.{arith}
 use lib.Seq.{length-take-le}
 use Rattle.units.proofs.Asking.{tells-short, tells-here, tells-refused, reached, sought-refused}
 use Rattle.units.proofs.observable_effect.Statement.{statement}
@@ -25,8 +26,13 @@ find-step-requires c κs = (length-take-le 512 (c .before .before .before .befor
 enum-known-here : tie.Need-enum-known-here
 enum-known-here c = search needs
 
+tail-of-requires : tie.Need-tail-of-requires
+tail-of-requires c κs = omega (arith, reached _ _ _ _ _ (c .before .before .before .before .before .before .find-step .ensures) _ _ (c .before .here .given .1) .sound .2)
+
 effect-at-requires : tie.Need-effect-at-requires
-effect-at-requires c κs = reached _ _ _ _ _ (c .before .before .before .before .before .before .find-step .ensures) _ _ (c .before .here .given .1) .sound .2
+effect-at-requires c κs =
+    let h = reached _ _ _ _ _ (c .before .before .before .before .before .before .before .find-step .ensures) _ _ (c .before .before .here .given .1) in
+    omega (arith, h .sound .2, c .tail-of .ensures .1)
 
 enum-known-r : tie.Need-enum-known-r
 enum-known-r c = search needs
@@ -35,7 +41,9 @@ same-length : tie.Need-same-length
 same-length c = search needs
 
 returns-2 : tie.Need-returns-2
-returns-2 c = tells-here _ _ _ (search needs) _ _ _ _ _ (reached _ _ _ _ _ (c .before .before .before .before .before .before .before .find-step .ensures) _ _ (c .before .before .here .given .1)) (c .effect-at .ensures)
+returns-2 c =
+    let h = reached _ _ _ _ _ (c .before .before .before .before .before .before .before .before .find-step .ensures) _ _ (c .before .before .before .here .given .1) in
+    tells-here _ _ _ (search needs) _ _ _ _ _ _ h (c .before .tail-of .ensures .0) (c .effect-at .ensures)
 
 same-length-2 : tie.Need-same-length-2
 same-length-2 c = search needs
@@ -55,6 +63,7 @@ observable-effect-spec =
     slice-aggregate-find-step-2
     find-step-requires
     enum-known-here
+    tail-of-requires
     effect-at-requires
     enum-known-r
     same-length

@@ -12,11 +12,11 @@ use Rattle.allocator.proofs.all.place_all.Statement.{statement}
 use Rattle.allocator.proofs.all.place_all.Tie as tie
 
 abbrev Inv-loop : tie.InvT-loop
-Inv-loop file graph copies app₀ work₀ ids₀ owners₀ numbers₀ out₀ slots₀ at₀ i₀ app work ids owners numbers out slots at i =
-    Going file graph copies app₀ work₀ app work slots ids owners numbers out at i
+Inv-loop file graph copies app₀ work₀ ids₀ owners₀ numbers₀ out₀ list₀ n₀ at₀ i₀ app work ids owners numbers out list n at i =
+    Going file graph copies app₀ work₀ app work list n ids owners numbers out at i
 
 abbrev μ-loop : tie.MeasureT-loop
-μ-loop file graph copies app₀ work₀ ids₀ owners₀ numbers₀ out₀ slots₀ at₀ i₀ app work ids owners numbers out slots at i =
+μ-loop file graph copies app₀ work₀ ids₀ owners₀ numbers₀ out₀ list₀ n₀ at₀ i₀ app work ids owners numbers out list n at i =
     length file - at
 
 no-slots-requires : tie.Need-no-slots-requires Inv-loop μ-loop
@@ -25,7 +25,7 @@ no-slots-requires c κs = search needs
 loop-holds : tie.Need-loop-holds Inv-loop μ-loop
 loop-holds c =
     let p = c .before .before .before .before .before .before .before .before .before .before .pre in
-    going-start _ _ _ _ _ _ _ _ _ _ (p .0) (p .1) (p .6) (p .7) (p .8) (c .no-slots .ensures .0) (p .9)
+    going-start _ _ _ _ _ _ _ _ _ _ (p .0) (p .1) (p .6) (p .7) (p .8) (p .9)
 
 tail-of-requires : tie.Need-tail-of-requires Inv-loop μ-loop
 tail-of-requires c κs = omega arith
@@ -80,8 +80,8 @@ enum-known-p c = search needs
 slot-of-requires : tie.Need-slot-of-requires Inv-loop μ-loop
 slot-of-requires c κs = search needs
 
-append-requires : tie.Need-append-requires Inv-loop μ-loop
-append-requires c κs =
+put-in-requires : tie.Need-put-in-requires Inv-loop μ-loop
+put-in-requires c κs =
     let z = c .before .before .before .before .before .before .before .before .before .before .before .before .before .before .before .before .before .before .before .before .before .before .before in
     let o = z .before .before in
     let t = o .before in
@@ -90,6 +90,9 @@ append-requires c κs =
     let q = opened f _ (l .loop .at) _ _ (t .before .tail-of .ensures .0) (t .opens-storage .ensures) (o .if1 .taken) in
     let w = front-fits (l .loop .inv) _ _ (z .before .tail-of2 .ensures .0) (z .storage-at .ensures) q in
     omega (arith, w .0, going-held (l .loop .inv) .1 .kept .few)
+
+add-n : tie.Need-add-n Inv-loop μ-loop
+add-n c = let l = c .before .before .before .before .before .before .before .before .before .before .before .before .before .before .before .before .before .before .before .before .before .before .before .before .before .before .before .before .before in omega (arith, l .loop .inv .few, going-held (l .loop .inv) .1 .kept .few)
 
 enum-known-r : tie.Need-enum-known-r Inv-loop μ-loop
 enum-known-r c = search needs
@@ -177,10 +180,10 @@ loop-again c =
     let q = opened f _ (l .loop .at) _ _ (t .before .tail-of .ensures .0) (t .opens-storage .ensures) (o .if1 .taken) in
     let v = n .place-one .result in
     let s = z .storage-at .result in
-    let follows : Follows (l .loop .slots) s v (c .match .slots) =
-    ⊎-elim (λ w. placed-follows (l .loop .slots) s v (c .match .slots) (w .1 .given .1) (w .2))
-    (λ w. opened-follows (l .loop .slots) s v (c .match .slots) _ _ _ (w .1 .given .1) (w .3 .ensures) (w .4 .ensures .0) (w .4 .ensures .1) (w .5)) (c .match .came) in
-    going-on (l .loop .inv) _ _ (z .before .tail-of2 .ensures .0) (z .storage-at .ensures) q v _ _ _ _ _ _ (n .place-one .ensures) (c .match .slots) follows
+    let follows : Follows (l .loop .list) (l .loop .n) s v (c .match .list) (c .match .n) =
+    ⊎-elim (λ w. placed-follows (l .loop .list) (l .loop .n) s v (c .match .list) (c .match .n) (w .1 .given .1) (w .2) (w .3))
+    (λ w. opened-follows (l .loop .list) (l .loop .n) s v (c .match .list) (c .match .n) _ _ (w .1 .given .1) (w .3 .ensures) (w .5 ∙ w .4 .ensures) (w .6)) (c .match .came) in
+    going-on (l .loop .inv) _ _ (z .before .tail-of2 .ensures .0) (z .storage-at .ensures) q v _ _ _ _ _ _ (n .place-one .ensures) (c .match .list) (c .match .n) follows
     (d .before .before .before .before .before .before .before .before .before .before .app .given) (d .before .before .before .before .before .before .before .before .work .given) (d .before .before .before .before .before .before .ids .given) (d .before .before .before .before .owners .given) (d .before .before .numbers .given) (d .out .given)
 
 same-length-7 : tie.Need-same-length-7 Inv-loop μ-loop
@@ -224,7 +227,8 @@ place-all-spec =
     enum-told
     enum-known-p
     slot-of-requires
-    append-requires
+    put-in-requires
+    add-n
     enum-known-r
     same-length
     same-length-2

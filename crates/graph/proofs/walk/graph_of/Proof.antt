@@ -60,7 +60,10 @@ same-length-3 c = search needs
 
 returns : tie.Need-returns
 returns c =
-    λ us k. whole-all _ us _ _ _ _ _ _ _ _ _ _ _ k (c .before .before .before .before .before .before .before .before .before .before .before .before .before .before .before .before .take-functions .ensures us (granted-all _ us _ _ _ _ _ k (c .before .before .before .before .before .before .before .before .before .before .before .before .before .before .before .before .before .before .before .before .before .before .before .before .before .before .before .index-functions .ensures .1) (c .before .before .before .before .before .before .before .before .before .before .before .before .before .before .before .before .before .before .before .before .before .before .before .before .unit-rows .ensures))) (c .before .before .before .before .before .before .before .before .before .before .before .before .before .before .before .before .before .before .before .before .before .before .before .before .before .before .before .before .before .before .before .before .before .before .before .pre .6) (c .before .before .before .before .before .before .before .close .ensures) (c .before .before .hold .ensures)
+    let c16 = c .before .before .before .before .before .before .before .before .before .before .before .before .before .before .before .before in
+    let c24 = c16 .before .before .before .before .before .before .before .before in
+    let c35 = c24 .before .before .before .before .before .before .before .before .before .before .before in
+    λ us k. whole-all _ us _ _ _ _ _ _ _ _ _ _ _ k (c16 .take-functions .ensures us (granted-all _ us _ _ _ _ _ k (c24 .before .before .before .index-functions .ensures .1) (c24 .unit-rows .ensures))) (c35 .pre .6) (c .before .before .before .before .before .before .before .close .ensures) (c .before .before .hold .ensures)
 
 pub graph-of-spec : {M : Type 1} → statement M
 graph-of-spec =

@@ -14,20 +14,25 @@ settle-requires c κs = (c .before .before .before .before .before .before .befo
 
 take-blocks-requires : tie.Need-take-blocks-requires
 take-blocks-requires c κs =
-    let p = c .before .before .before .before .before .before .before .before .before .before .before .before .before .before .before .before .before .before .before .before .before .before .before .before .before .before .before .before .before .before .before .before .before .before .before .before .before .before .before .before .before .before .before .before .before .before .before .before .before .before .before .before .before .pre in
-    let s = c .before .before .before .before .before .before .before .before .before .before .before .before .before .before .before .before .before .before .before .before .before .before .before .before .before .before .before .before .before .survey .ensures in (
+    let c9 = c .before .before .before .before .before .before .before .before .before in
+    let c16 = c9 .before .before .before .before .before .before .before in
+    let c20 = c16 .before .before .before .before in
+    let c29 = c20 .before .before .before .before .before .before .before .before .before in
+    let c53 = c29 .before .before .before .before .before .before .before .before .before .before .before .before .before .before .before .before .before .before .before .before .before .before .before .before in
+    let p = c53 .pre in
+    let s = c29 .survey .ensures in (
       p .0,
       p .1,
       p .2,
       p .3,
-      omega (arith, c .before .before .before .before .before .before .before .before .before .before .before .before .before .before .before .before .before .before .before .before .places .given, p .11 .4),
-      omega (arith, c .before .before .before .before .before .before .before .before .before .before .before .before .before .before .before .before .before .before .counts .given, p .11 .5),
-      omega (arith, c .before .before .before .before .before .before .before .before .before .before .before .before .before .before .before .before .firsts .given, p .11 .6),
+      omega (arith, c20 .places .given, p .11 .4),
+      omega (arith, c16 .before .before .counts .given, p .11 .5),
+      omega (arith, c16 .firsts .given, p .11 .6),
       s .0 .few,
-      owner-ordered _ _ _ _ _ _ _ _ _ _ _ _ _ (s .2) (p .4) (omega (arith, c .before .before .before .before .before .before .before .before .before .before .before .before .before .before .before .before .before .before .before .before .places .given, p .11 .4)),
+      owner-ordered _ _ _ _ _ _ _ _ _ _ _ _ _ (s .2) (p .4) (omega (arith, c20 .places .given, p .11 .4)),
       p .5,
       p .6,
-      c .before .before .before .before .before .before .before .before .before .settle .ensures .held .len,
+      c9 .settle .ensures .held .len,
       p .8,
       p .9,
       p .10,

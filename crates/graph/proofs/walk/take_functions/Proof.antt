@@ -3,13 +3,13 @@
 use native.Mathlib.Omega.{arith}
 use borrow.Author.Needs.{needs}
 use Prim.Native.Nat.{ℕ, _≤_, _-_, _+_}
-use mathlib.Core.Path.{_≡_, refl, sym, subst, _∙_}
+use mathlib.Core.Path.{_≡_, sym, ap, subst, _∙_}
 use mathlib.Core.List.{List}
 use lib.ListN.{length}
 use Rattle.units.specs.Along.{from, Sound}
 use Rattle.units.specs.declared.cursor.Cursor.{Cursor}
-use Rattle.liveness.specs.Passes.{Held}
-use Rattle.liveness.proofs.Passing.{blank-held}
+use Rattle.passes.specs.Passes.{Held}
+use Rattle.passes.proofs.Passing.{blank-held}
 use Rattle.graph.specs.Walking.{Sized, Lent, Granted, Walked}
 use Rattle.graph.proofs.Walked.{blank-length, walked-none, next-owner, next-room, walked-more, next-less, walked-all}
 use Rattle.graph.proofs.walk.take_functions.Statement.{statement}
@@ -46,10 +46,10 @@ at-function-requires c κs = search needs
 clear-rows-requires : tie.Need-clear-rows-requires Inv-loop μ-loop
 clear-rows-requires c κs = (c .before .before .before .loop .inv .4, c .before .before .before .loop .inv .5)
 
-add-t28 : tie.Need-add-t28 Inv-loop μ-loop
-add-t28 c =
-    let p = c .before .before .before .before .before .before .before .before .before .before .before .before .before .before .before .before .before .before .pre in
-    let y = c .before .before .before .before .before .before .at-function .ensures .yes (c .before .before .before .before .before .if1 .taken) in
+behind-requires : tie.Need-behind-requires Inv-loop μ-loop
+behind-requires c κs =
+    let p = c .before .before .before .before .before .before .before .before .before .before .before .before .before .before .before .before .before .pre in
+    let y = c .before .before .before .before .before .at-function .ensures .yes (c .before .before .before .before .if1 .taken) in
     omega (arith, y .1, p .0)
 
 slice-aggregate-take-function : tie.Need-slice-aggregate-take-function Inv-loop μ-loop
@@ -75,18 +75,23 @@ slice-aggregate-take-function-7 c = omega (arith, c .before .before .before .bef
 
 take-function-requires : tie.Need-take-function-requires Inv-loop μ-loop
 take-function-requires c κs =
-    let l = c .before .before .before .before .before .before .before .before .before .before .before .before .before .before .before .before .before .before .loop in
-    let p = c .before .before .before .before .before .before .before .before .before .before .before .before .before .before .before .before .before .before .before .before .before .before .before .before .before .before .before .before .before .pre in
-    let y = c .before .before .before .before .before .before .before .before .before .before .before .before .before .before .before .before .before .at-function .ensures .yes (c .before .before .before .before .before .before .before .before .before .before .before .before .before .before .before .before .if1 .taken) in
-    let own : Cursor = record { at = l .c .at + 2; k = l .c .k } in (
+    let c14 = c .before .before .before .before .before .before .before .before .before .before .before .before .before .before in
+    let c18 = c14 .before .before .before .before in
+    let c29 = c18 .before .before .before .before .before .before .before .before .before .before .before in
+    let l = c18 .loop in
+    let p = c29 .pre in
+    let y = c14 .before .before .before .at-function .ensures .yes (c14 .before .before .if1 .taken) in
+    let h = c .before .before .before .before .before .before .before .before .before .before .before .behind .ensures in
+    let at-is = ap (λ (x : Cursor). x .at) h in
+    let k-is = ap (λ (x : Cursor). x .k) h in (
       p .0,
       p .1,
       p .2,
-      omega (arith, l .inv .0),
-      next-owner _ _ _ _ _ _ (p .9 .1) (l .c) own (l .c) _ 0 0 (l .rows) (l .meets) (l .copies) (l .addressed) (l .rows) (l .meets) (l .copies) (l .addressed) (l .inv .3 (p .9 .0) (p .9 .1)) y refl refl,
+      omega (arith, l .inv .0, at-is, k-is),
+      next-owner _ _ _ _ _ _ (p .9 .1) (l .c) _ (l .c) _ 0 0 (l .rows) (l .meets) (l .copies) (l .addressed) (l .rows) (l .meets) (l .copies) (l .addressed) (l .inv .3 (p .9 .0) (p .9 .1)) y at-is k-is,
       p .3,
       p .4,
-      c .before .before .before .before .before .before .before .before .before .before .before .before .before .before .clear-rows .ensures,
+      c14 .clear-rows .ensures,
       l .inv .1 .0,
       l .inv .1 .1,
       l .inv .1 .2,
@@ -95,31 +100,37 @@ take-function-requires c κs =
 
 add-passes : tie.Need-add-passes Inv-loop μ-loop
 add-passes c =
-    let l = c .before .before .before .before .before .before .before .before .before .before .before .before .before .before .before .before .before .before .before .before .before .before .before .before .before .before .before .before .before .before .before .before .before .before .before .loop in
-    let p = c .before .before .before .before .before .before .before .before .before .before .before .before .before .before .before .before .before .before .before .before .before .before .before .before .before .before .before .before .before .before .before .before .before .before .before .before .before .before .before .before .before .before .before .before .before .before .pre in
-    let y = c .before .before .before .before .before .before .before .before .before .before .before .before .before .before .before .before .before .before .before .before .before .before .before .before .before .before .before .before .before .before .before .before .before .before .at-function .ensures .yes (c .before .before .before .before .before .before .before .before .before .before .before .before .before .before .before .before .before .before .before .before .before .before .before .before .before .before .before .before .before .before .before .before .before .if1 .taken) in
-    let own : Cursor = record { at = l .c .at + 2; k = l .c .k } in
-    omega (arith, next-room _ _ _ _ _ _ (p .9 .1) (l .c) own (l .c) _ 0 0 (l .rows) (l .meets) (l .copies) (l .addressed) (l .rows) (l .meets) (l .copies) (l .addressed) (l .inv .3 (p .9 .0) (p .9 .1)) y refl refl (p .0), c .before .before .before .before .before .before .before .before .before .before .before .before .before .before .before .before .take-function .ensures .few)
+    let c16 = c .before .before .before .before .before .before .before .before .before .before .before .before .before .before .before .before in
+    let c33 = c16 .before .before .before .before .before .before .before .before .before .before .before .before .before .before .before .before .before in
+    let c46 = c33 .before .before .before .before .before .before .before .before .before .before .before .before .before in
+    let l = c33 .before .before .loop in
+    let p = c46 .pre in
+    let y = c33 .before .at-function .ensures .yes (c33 .if1 .taken) in
+    let h = c .before .before .before .before .before .before .before .before .before .before .before .before .before .before .before .before .before .before .before .before .before .before .before .before .before .before .before .before .behind .ensures in
+    omega (arith, next-room _ _ _ _ _ _ (p .9 .1) (l .c) _ (l .c) _ 0 0 (l .rows) (l .meets) (l .copies) (l .addressed) (l .rows) (l .meets) (l .copies) (l .addressed) (l .inv .3 (p .9 .0) (p .9 .1)) y (ap (λ (x : Cursor). x .at) h) (ap (λ (x : Cursor). x .k) h) (p .0), c16 .take-function .ensures .few)
 
 loop-less : tie.Need-loop-less Inv-loop μ-loop
 loop-less c =
-    let l = c .before .before .before .before .before .before .before .before .before .before .before .before .before .before .before .before .before .before .before .before .before .before .before .before .before .before .before .before .before .before .before .before .before .before .before .before .loop in
-    let p = c .before .before .before .before .before .before .before .before .before .before .before .before .before .before .before .before .before .before .before .before .before .before .before .before .before .before .before .before .before .before .before .before .before .before .before .before .before .before .before .before .before .before .before .before .before .before .before .pre in
-    let y = c .before .before .before .before .before .before .before .before .before .before .before .before .before .before .before .before .before .before .before .before .before .before .before .before .before .before .before .before .before .before .before .before .before .before .before .at-function .ensures .yes (c .before .before .before .before .before .before .before .before .before .before .before .before .before .before .before .before .before .before .before .before .before .before .before .before .before .before .before .before .before .before .before .before .before .before .if1 .taken) in
-    let own : Cursor = record { at = l .c .at + 2; k = l .c .k } in
-    next-less _ _ _ _ _ _ (p .9 .1) (l .c) own _ _ _ _ _ _ _ _ _ _ _ _ (l .inv .3 (p .9 .0) (p .9 .1)) y refl refl (c .before .before .before .before .before .before .before .before .before .before .before .before .before .before .before .before .before .take-function .ensures)
+    let c17 = c .before .before .before .before .before .before .before .before .before .before .before .before .before .before .before .before .before in
+    let c34 = c17 .before .before .before .before .before .before .before .before .before .before .before .before .before .before .before .before .before in
+    let c47 = c34 .before .before .before .before .before .before .before .before .before .before .before .before .before in
+    let l = c34 .before .before .loop in
+    let p = c47 .pre in
+    let y = c34 .before .at-function .ensures .yes (c34 .if1 .taken) in
+    let h = c .before .before .before .before .before .before .before .before .before .before .before .before .before .before .before .before .before .before .before .before .before .before .before .before .before .before .before .before .before .behind .ensures in
+    next-less _ _ _ _ _ _ (p .9 .1) (l .c) _ _ _ _ _ _ _ _ _ _ _ _ _ (l .inv .3 (p .9 .0) (p .9 .1)) y (ap (λ (x : Cursor). x .at) h) (ap (λ (x : Cursor). x .k) h) (c17 .take-function .ensures)
 
 loop-again : tie.Need-loop-again Inv-loop μ-loop
 loop-again c =
     let l = c .before .before .before .before .before .before .before .before .before .before .before .before .before .before .before .before .before .before .before .before .before .before .before .before .before .before .before .before .before .before .before .before .before .before .before .before .loop in
     let p = c .before .before .before .before .before .before .before .before .before .before .before .before .before .before .before .before .before .before .before .before .before .before .before .before .before .before .before .before .before .before .before .before .before .before .before .before .before .before .before .before .before .before .before .before .before .before .before .pre in
     let y = c .before .before .before .before .before .before .before .before .before .before .before .before .before .before .before .before .before .before .before .before .before .before .before .before .before .before .before .before .before .before .before .before .before .before .before .at-function .ensures .yes (c .before .before .before .before .before .before .before .before .before .before .before .before .before .before .before .before .before .before .before .before .before .before .before .before .before .before .before .before .before .before .before .before .before .before .if1 .taken) in
-    let own : Cursor = record { at = l .c .at + 2; k = l .c .k } in
+    let h = c .before .before .before .before .before .before .before .before .before .before .before .before .before .before .before .before .before .before .before .before .before .before .before .before .before .before .before .before .before .behind .ensures in
     let t = c .before .before .before .before .before .before .before .before .before .before .before .before .before .before .before .before .before .take-function .ensures in (
       t .sound,
       (search needs, search needs, search needs),
       t .held .len,
-      λ us g. walked-more _ us _ _ _ _ g (l .c) own _ _ _ _ _ _ _ _ _ _ _ _ (l .inv .3 us g) y refl refl t,
+      λ us g. walked-more _ us _ _ _ _ g (l .c) _ _ _ _ _ _ _ _ _ _ _ _ _ (l .inv .3 us g) y (ap (λ (x : Cursor). x .at) h) (ap (λ (x : Cursor). x .k) h) t,
       t .held,
       t .fewer,
       (search needs, search needs, search needs, search needs, search needs, search needs, search needs),
@@ -151,7 +162,7 @@ take-functions-spec =
     loop-holds
     at-function-requires
     clear-rows-requires
-    add-t28
+    behind-requires
     slice-aggregate-take-function
     slice-aggregate-take-function-2
     slice-aggregate-take-function-3

@@ -40,13 +40,16 @@ same-length-2 c = search needs
 
 returns : tie.Need-returns
 returns c =
-    let u = c .before .before .before .before .before .before .before .before .before .before .before .before .before .before .before .before .uses-at .ensures in
-    let a = c .before .before .before .before .before .before .before .before .before .before .before .before .before .before .before .before .before .before .before .before .before .before .before .before in (
+    let c11 = c .before .before .before .before .before .before .before .before .before .before .before in
+    let c16 = c11 .before .before .before .before .before in
+    let c24 = c16 .before .before .before .before .before .before .before .before in
+    let u = c16 .uses-at .ensures in
+    let a = c24 in (
       u .0,
       u .1,
       u .2,
       λ us fn ss.
-          step-joined _ us _ _ fn _ _ _ ss _ _ _ _ _ _ _ (a .pre .6) (a .pre .7) (u .4) (u .3) (c .before .before .before .before .before .before .before .before .before .before .before .less-from .ensures) (c .before .before .before .before .before .before .before .union-from .ensures) (c .before .before .union-from2 .ensures),
+          step-joined _ us _ _ fn _ _ _ ss _ _ _ _ _ _ _ (a .pre .6) (a .pre .7) (u .4) (u .3) (c11 .less-from .ensures) (c .before .before .before .before .before .before .before .union-from .ensures) (c .before .before .union-from2 .ensures),
     )
 
 pub step-rows-spec : {M : Type 1} → statement M

@@ -43,8 +43,9 @@ slice-aggregate-take-block c = omega (arith, c .before .before .before .before .
 
 take-block-requires : tie.Need-take-block-requires Inv-loop μ-loop
 take-block-requires c κs =
-    let i = c .before .before .before .before .before .before .before .before .before .before .loop .inv in
-    let y = c .before .before .before .before .before .before .before .before .before .at-block .ensures .yes (c .before .before .before .before .before .before .before .before .if1 .taken) in
+    let c8 = c .before .before .before .before .before .before .before .before in
+    let i = c8 .before .before .loop .inv in
+    let y = c8 .before .at-block .ensures .yes (c8 .if1 .taken) in
     (i .0, i .1, i .2, i .3, i .12 .within, y .1, y .0, i .4, i .5, i .6, i .7, i .8, i .9, i .10, i .11, i .12 .tallied)
 
 add-b : tie.Need-add-b Inv-loop μ-loop

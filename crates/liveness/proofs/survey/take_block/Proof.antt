@@ -51,7 +51,10 @@ copy-row-requires-2 : tie.Need-copy-row-requires-2
 copy-row-requires-2 c κs = (omega (arith, c .before .before .before .before .before .before .before .before .before .before .before .before .before .before .before .before .before .before .before .before .before .before .before .before .before .before .before .before .before .before .before .before .before .before .before .pre .6, c .before .before .before .before .before .before .before .before .before .before .before .before .before .before .before .before .before .before .before .before .before .before .before .before .before .before .before .before .before .before .before .before .before .before .before .pre .8), search needs)
 
 cast-starts : tie.Need-cast-starts
-cast-starts c = omega (arith, c .before .before .before .before .before .before .before .before .before .before .before .before .before .before .before .before .before .before .before .before .before .before .before .before .before .before .before .before .before .before .before .before .before .before .before .before .before .before .before .pre .0, c .before .before .before .before .before .before .before .before .before .before .before .before .before .before .before .before .before .before .before .block-records .ensures .0 .within .1, c .before .before .before .before .before .before .before .before .before .before .before .before .before .before .before .before .before .before .before .block-records .ensures .0 .within .2, c .before .before .before .before .before .before .before .before .before .before .before .before .before .before .before .before .before .before .before .block-records .ensures .0 .fits)
+cast-starts c =
+    let c19 = c .before .before .before .before .before .before .before .before .before .before .before .before .before .before .before .before .before .before .before in
+    let c39 = c19 .before .before .before .before .before .before .before .before .before .before .before .before .before .before .before .before .before .before .before .before in
+    omega (arith, c39 .pre .0, c19 .block-records .ensures .0 .within .1, c19 .block-records .ensures .0 .within .2, c19 .block-records .ensures .0 .fits)
 
 add-starts : tie.Need-add-starts
 add-starts c = omega (arith, c .before .before .before .before .before .before .before .before .before .before .before .before .before .before .before .before .before .before .before .before .before .before .before .before .before .before .before .before .before .before .before .before .before .before .before .before .before .before .before .pre .6)
@@ -63,7 +66,10 @@ slice-write-starts : tie.Need-slice-write-starts
 slice-write-starts c = omega (arith, c .before .before .before .before .before .before .before .before .before .before .before .before .before .before .before .before .before .before .before .before .before .before .before .before .before .before .before .before .before .before .before .before .before .before .before .before .before .before .before .pre .6, c .before .before .before .before .before .before .before .before .before .before .before .before .before .before .before .before .before .before .before .before .before .before .before .before .before .before .before .before .before .before .before .before .before .before .before .before .before .before .before .pre .10)
 
 cast-firsts : tie.Need-cast-firsts
-cast-firsts c = omega (arith, c .before .before .before .before .before .before .before .before .before .before .before .before .before .before .before .before .before .before .before .before .before .before .before .before .before .before .before .before .before .before .before .before .before .before .before .before .before .before .before .before .pre .0, c .before .before .before .before .before .before .before .before .before .before .before .before .before .before .before .before .before .before .before .before .block-records .ensures .0 .within .1, c .before .before .before .before .before .before .before .before .before .before .before .before .before .before .before .before .before .before .before .before .block-records .ensures .0 .within .2, c .before .before .before .before .before .before .before .before .before .before .before .before .before .before .before .before .before .before .before .before .block-records .ensures .0 .fits)
+cast-firsts c =
+    let c20 = c .before .before .before .before .before .before .before .before .before .before .before .before .before .before .before .before .before .before .before .before in
+    let c40 = c20 .before .before .before .before .before .before .before .before .before .before .before .before .before .before .before .before .before .before .before .before in
+    omega (arith, c40 .pre .0, c20 .block-records .ensures .0 .within .1, c20 .block-records .ensures .0 .within .2, c20 .block-records .ensures .0 .fits)
 
 add-firsts : tie.Need-add-firsts
 add-firsts c = omega (arith, c .before .before .before .before .before .before .before .before .before .before .before .before .before .before .before .before .before .before .before .before .before .before .before .before .before .before .before .before .before .before .before .before .before .before .before .before .before .before .before .before .pre .6)

@@ -82,9 +82,11 @@ same-length-5 c = search needs
 
 returns-3 : tie.Need-returns-3
 returns-3 c =
-    let p = c .before .before .before .before .before .before .before .before .before .before .before .before .before .before .before .before .before .before .before .before .pre in
+    let c10 = c .before .before .before .before .before .before .before .before .before .before in
+    let c20 = c10 .before .before .before .before .before .before .before .before .before .before in
+    let p = c20 .pre in
     let u = c .before .before .before .before .before .step-rows .ensures in
-    taken-step _ _ _ _ _ _ _ _ _ _ _ _ (p .4) (p .5) (p .6) _ _ _ (c .before .before .before .before .before .before .before .before .before .before .before .if1 .left) (c .before .before .before .before .before .before .before .before .before .before .if2 .left) (p .0) (p .10) (p .11) (u .0) (u .1) (u .2) (u .3)
+    taken-step _ _ _ _ _ _ _ _ _ _ _ _ (p .4) (p .5) (p .6) _ _ _ (c10 .before .if1 .left) (c10 .if2 .left) (p .0) (p .10) (p .11) (u .0) (u .1) (u .2) (u .3)
 
 pub take-record-spec : {M : Type 1} → statement M
 take-record-spec =

@@ -8,14 +8,8 @@ use Rattle.units.proofs.ask.effect_at.Tie as tie
 shared-slice-read-effect-of : tie.Need-shared-slice-read-effect-of
 shared-slice-read-effect-of c = search needs
 
-add-effect-of : tie.Need-add-effect-of
-add-effect-of c = search needs
-
 shared-slice-read-effect-of-2 : tie.Need-shared-slice-read-effect-of-2
 shared-slice-read-effect-of-2 c = search needs
-
-add-effect-of-2 : tie.Need-add-effect-of-2
-add-effect-of-2 c = search needs
 
 shared-slice-read-effect-of-3 : tie.Need-shared-slice-read-effect-of-3
 shared-slice-read-effect-of-3 c = search needs
@@ -24,19 +18,17 @@ effect-of-requires : tie.Need-effect-of-requires
 effect-of-requires c κs = search needs
 
 returns : tie.Need-returns
-returns c = effect-yes (c .before .before .before .before .before .before .args .file .now) (c .before .before .before .before .before .before .args .at) _ (c .before .effect-of .ensures) (c .if1 .taken)
+returns c = effect-yes _ _ (c .before .effect-of .ensures) (c .if1 .taken)
 
 returns-2 : tie.Need-returns-2
-returns-2 c = effect-no (c .before .before .before .before .before .before .args .file .now) (c .before .before .before .before .before .before .args .at) _ (c .before .effect-of .ensures) (c .if1 .left)
+returns-2 c = effect-no _ _ (c .before .effect-of .ensures) (c .if1 .left)
 
 pub effect-at-spec : {M : Type 1} → statement M
 effect-at-spec =
     tie.close
     (tie.spec
     shared-slice-read-effect-of
-    add-effect-of
     shared-slice-read-effect-of-2
-    add-effect-of-2
     shared-slice-read-effect-of-3
     effect-of-requires
     returns

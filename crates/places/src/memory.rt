@@ -1,0 +1,56 @@
+// Room in the two memories: whether it is clear, and the taking of it.
+ghost use mathlib.Core.Path.{_≡_};
+ghost use Prim.Native.Nat.{_≤_, _<_};
+ghost use lib.ListN.{length};
+ghost use Rattle.places.specs.Memory.{clearRoom, reserve, mapOf};
+ghost use Rattle.places.specs.Legal.{Small, Inside};
+use maps::clear_bit;
+use maps::clear_bytes;
+use maps::take_bit;
+use maps::take_bytes;
+use storages::Room;
+use storages::Space;
+
+// Is the room inside its memory, and clear?
+pub fn is_clear(app: &[u8], work: &[u8], room: Room) -> bool
+    requires { ⌜ Small room ⌝ }
+    ensures { λ r. ⌜ r ≡ clearRoom (record { app = now (app .entry); wrk = now (work .entry) }) room ⌝ }
+{
+    match room {
+        Room::Nowhere => true,
+        Room::Bytes {
+            space,
+            offset,
+            count,
+        } => match space {
+            Space::App => clear_bytes(app, offset as usize, count as usize),
+            Space::Work => clear_bytes(work, offset as usize, count as usize),
+        },
+        Room::OneBit { space, offset, bit } => match space {
+            Space::App => clear_bit(app, offset as usize, bit as usize),
+            Space::Work => clear_bit(work, offset as usize, bit as usize),
+        },
+    }
+}
+
+// Takes the room.
+pub fn take_room(app: &mut [u8], work: &mut [u8], room: Room)
+    requires { ⌜ Inside (length (now app)) (length (now work)) room ⌝ }
+    ensures { λ _. ⌜ (record { app = now (app .exit); wrk = now (work .exit) }) ≡ reserve room (record { app = now (app .entry); wrk = now (work .entry) }) ⌝ }
+{
+    match room {
+        Room::Nowhere => {}
+        Room::Bytes {
+            space,
+            offset,
+            count,
+        } => match space {
+            Space::App => take_bytes(app, offset as usize, count as usize),
+            Space::Work => take_bytes(work, offset as usize, count as usize),
+        },
+        Room::OneBit { space, offset, bit } => match space {
+            Space::App => take_bit(app, offset as usize, bit as usize),
+            Space::Work => take_bit(work, offset as usize, bit as usize),
+        },
+    }
+}

@@ -1,0 +1,148 @@
+// One storage is placed: into a slot, or at a place of its own.
+ghost use mathlib.Core.Path.{_≡_};
+ghost use mathlib.Core.List.{List};
+ghost use Prim.Native.Nat.{_+_, _*_, _/_, _%_, _≤_, _<_};
+ghost use lib.ListN.{length, set};
+ghost use Rattle.rows.specs.Row as W;
+ghost use Rattle.records.specs.Pick.{pick};
+ghost use Rattle.storages.specs.Storage.{tries};
+ghost use Rattle.places.specs.Legal.{FixedSmall};
+ghost use Rattle.places.specs.Place.{Given, State, recordAt, choose, takeRoom, step};
+ghost use Rattle.turns.specs.Held.{Tells, Held, listAfter, countAfter, TurnedBy};
+use crate::marks::slot_for;
+use places::choose::Chosen;
+use places::choose::choose;
+use places::memory::take_room;
+use records::Refusal;
+use slots::Slot;
+use slots::placement_at;
+use storages::Placement;
+use storages::Storage;
+use storages::a_of;
+use storages::b_of;
+use storages::code_of;
+use storages::room_of;
+use storages::tries_slots;
+
+// A storage was placed, or was placed and opens a slot there, or is refused.
+pub enum Verdict {
+    Placed,
+    Opened(Placement),
+    Refused(Refusal),
+}
+
+// A number of two bytes, low byte first.
+fn put_u16(out: &mut [u8], at: usize, n: u16)
+    requires { ⌜ at + 2 ≤ length (now out) ⌝ }
+    ensures { λ _. ⌜ now (out .exit) ≡ set (set (now (out .entry)) at (n % 256)) (at + 1) (n / 256 % 256) ⌝ }
+{
+    out[at] = (n % 256) as u8;
+    out[at + 1] = (n / 256 % 256) as u8;
+}
+
+// The result record of a storage.
+fn put_record(out: &mut [u8], at: usize, id: u16, p: Placement)
+    requires { ⌜ at + 8 ≤ length (now out) ⌝ }
+    ensures { λ _. ⌜ now (out .exit) ≡ W.put (now (out .entry)) at (recordAt id p) ⌝ }
+{
+    out[at] = 10;
+    put_u16(out, at + 1, id);
+    out[at + 3] = code_of(p);
+    put_u16(out, at + 4, a_of(p));
+    put_u16(out, at + 6, b_of(p));
+}
+
+// What is kept of a placed storage, the i-th: its id, its owner, its slot's number, and its result record.
+fn note(
+    ids: &mut [u16],
+    owners: &mut [u16],
+    numbers: &mut [u16],
+    out: &mut [u8],
+    i: usize,
+    s: Storage,
+    number: usize,
+    p: Placement,
+)
+    requires { ⌜ (i < 256) × (number ≤ 256) × (length (now ids) ≡ 256) × (length (now owners) ≡ 256) × (length (now numbers) ≡ 256) × (length (now out) ≡ 2048) ⌝ }
+    ensures { λ _. ⌜ (now (ids .exit) ≡ set (now (ids .entry)) i (s .id)) × (now (owners .exit) ≡ set (now (owners .entry)) i (s .owner))
+        × (now (numbers .exit) ≡ set (now (numbers .entry)) i number) × (now (out .exit) ≡ W.put (now (out .entry)) (i * 8) (recordAt (s .id) p)) ⌝ }
+{
+    ids[i] = s.id;
+    owners[i] = s.owner;
+    numbers[i] = number as u16;
+    put_record(out, i * 8, s.id, p);
+}
+
+// A storage that may share opens a slot at its place.
+fn opens(s: Storage, p: Placement) -> Verdict
+    ensures { λ r. ⌜ r ≡ pick (tries s) (Verdict.Opened p) Verdict.Placed ⌝ }
+{
+    if tries_slots(s) {
+        return Verdict::Opened(p);
+    }
+    Verdict::Placed
+}
+
+// The number of the slot that a storage opens: the next one, or 256 if it may not share.
+fn number_for(n: usize, s: Storage) -> usize
+    ensures { λ r. ⌜ r ≡ pick (tries s) n 256 ⌝ }
+{
+    if tries_slots(s) { n } else { 256 }
+}
+
+// A storage takes a place of its own.
+fn take_own(
+    n: usize,
+    s: Storage,
+    app: &mut [u8],
+    work: &mut [u8],
+    ids: &mut [u16],
+    owners: &mut [u16],
+    numbers: &mut [u16],
+    out: &mut [u8],
+    i: usize,
+) -> Verdict
+    requires { ⌜ (length (now ids) ≡ 256) × (length (now owners) ≡ 256) × (length (now numbers) ≡ 256) × (length (now out) ≡ 2048) × (length (now app) ≤ 256) × (length (now work) ≤ 512) × (i < 256) × (s .id < 256)
+        × FixedSmall (s .len) (s .fixed) × (n ≤ 256) ⌝ }
+    ensures { λ r. ⌜ ((g : Given) (x : State) (list : List Slot) → length list ≡ 256 → g .lo ≡ 0 → g .hi ≡ length (now (app .entry))
+        → Held x (now (app .entry)) (now (work .entry)) list n (now (ids .entry)) (now (owners .entry)) (now (numbers .entry)) (now (out .entry)) i
+        → TurnedBy (takeRoom s x (choose g s (x .maps))) r (now (app .exit)) (now (work .exit)) (listAfter list n s r) (countAfter n r) (now (ids .exit)) (now (owners .exit)) (now (numbers .exit)) (now (out .exit)) (i + 1)) ⌝ }
+{
+    match choose(s, app, work, 0, app.len()) {
+        Chosen::Refused(r) => Verdict::Refused(r),
+        Chosen::Spot(p) => {
+            take_room(app, work, room_of(s.len, p));
+            note(ids, owners, numbers, out, i, s, number_for(n, s), p);
+            opens(s, p)
+        }
+    }
+}
+
+// The i-th storage, after those before it.
+pub fn place_one(
+    list: [Slot; 256],
+    n: usize,
+    s: Storage,
+    graph: &[u64],
+    copies: &[u64],
+    app: &mut [u8],
+    work: &mut [u8],
+    ids: &mut [u16],
+    owners: &mut [u16],
+    numbers: &mut [u16],
+    out: &mut [u8],
+    i: usize,
+) -> Verdict
+    requires { ⌜ (length (now graph) ≡ 1024) × (length (now copies) ≡ 1024) × (length (now ids) ≡ 256) × (length (now owners) ≡ 256) × (length (now numbers) ≡ 256) × (length (now out) ≡ 2048) × (length (now app) ≤ 256) × (length (now work) ≤ 512) × (i < 256) × (s .id < 256)
+        × FixedSmall (s .len) (s .fixed) × ((x : State) × Held x (now app) (now work) list n (now ids) (now owners) (now numbers) (now out) i) ⌝ }
+    ensures { λ r. ⌜ ((g : Given) (x : State) → Tells g (now (graph .entry)) (now (copies .entry)) → g .lo ≡ 0 → g .hi ≡ length (now (app .entry))
+        → Held x (now (app .entry)) (now (work .entry)) list n (now (ids .entry)) (now (owners .entry)) (now (numbers .entry)) (now (out .entry)) i
+        → TurnedBy (step g s x) r (now (app .exit)) (now (work .exit)) (listAfter list n s r) (countAfter n r) (now (ids .exit)) (now (owners .exit)) (now (numbers .exit)) (now (out .exit)) (i + 1)) ⌝ }
+{
+    let k = slot_for(list, n, s, graph, copies, ids, owners, numbers, i);
+    if k < n {
+        note(ids, owners, numbers, out, i, s, k, placement_at(list, k));
+        return Verdict::Placed;
+    }
+    take_own(n, s, app, work, ids, owners, numbers, out, i)
+}
