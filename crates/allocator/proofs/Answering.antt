@@ -11,7 +11,7 @@ use lib.Seq.{length-take-le}
 use borrow.Author.Tests.{le-ltb, lt-ltb}
 use Rattle.rows.specs.Row as W
 use Rattle.rows.proofs.Rows.{put-whole}
-use Rattle.records.specs.Pick.{pick, pick-yes, pick-no, _or_, All}
+use Rattle.records.specs.Pick.{pick, pick-yes, pick-no, All}
 use Rattle.records.specs.Edition.{one}
 use Rattle.records.specs.Record.{Storage, u16At, headerFits, storageFits}
 use Rattle.records.specs.Check.{Answer, units, refusal, check}
@@ -28,6 +28,7 @@ use Rattle.graph.specs.Graph.{interferes, copied}
 use Rattle.graph.specs.Graphs as G
 use Rattle.graph.specs.declared.Graphed.{Graphed}
 use Rattle.graph.specs.declared.Graphed.the-variants as graphed
+use Rattle.graph.proofs.Drawing.{none}
 use Rattle.places.specs.Place.{Given, Outcome, done, refused, place, recordsOf}
 use Rattle.turns.specs.Held.{Tells}
 use Rattle.allocator.specs.All.{Fit, Allocates}
@@ -44,10 +45,6 @@ none-past n l e = drop-of-length-le l {i = n} (omega arith) ∙ sym (drop-of-len
 laid-exact : (n : ℕ) (us before : List ℕ) → length before ≡ n → laid n us before ≡ laid n us []
 unfolding laid
 laid-exact n us before e = ap (λ (v : List ℕ). us ++ replicate (n - length us) 0 ++ v) (none-past n before e)
-
-none : (a b c d : Bool) → a ≡ false → b ≡ false → c ≡ false → d ≡ false → (a or (b or (c or d))) ≡ false
-unfolding pick
-none a b c d p q r s = rw (p, q, r) s
 
 -- ---- an analysed file is accepted, and its rows tell the relations
 

@@ -1,6 +1,6 @@
 -- The maps hold nothing but the low bytes and what the placed storages touch: a step that takes room takes the bits of that room and no other, and one that
 -- joins a slot takes none. So a search that fails fails for want of room.
-use mathlib.Core.Path.{_≡_, refl, sym, ap, _∙_, subst}
+use mathlib.Core.Path.{_≡_, sym, ap, _∙_, subst}
 use mathlib.Core.Logic.{_⊎_, inl, inr}
 use mathlib.Core.Bool.{Bool, false}
 use mathlib.Core.List.{List, [], _∷_, _++_}
@@ -11,7 +11,9 @@ use native.Mathlib.Decide.{decLt}
 use lib.Dec.{T}
 use lib.ListN.{length, getD, replicate}
 use Rattle.rows.specs.Row.{bit}
+use Rattle.rows.proofs.Tests.{T-yes, T-no, T-false}
 use Rattle.rows.proofs.Digit.{bit-eq, bit-zero, word-ext}
+use Rattle.rows.proofs.Members.{getD-none}
 use Rattle.records.specs.Pick.{pick, All}
 use Rattle.storages.specs.declared.Storage.{Storage}
 use Rattle.storages.specs.declared.Space.{Space}
@@ -28,7 +30,7 @@ use Rattle.places.specs.declared.choose.Chosen.the-variants.{Spot, Refused}
 use Rattle.places.specs.Memory.{Maps, mapOf, fresh}
 use Rattle.places.specs.Place.{Given, slotFor, choose, Placed, State, Outcome, done, refused, takeRoom, stepBy, step, start, place}
 use Rattle.places.specs.Legal.{FixedSmall}
-use Rattle.places.proofs.Tests.{T-yes, T-no, T-false, or-cases, any-left, any-last}
+use Rattle.places.proofs.Tests.{or-cases, any-left, any-last}
 use Rattle.places.proofs.Rooms.{held, reserve-only}
 use Rattle.turns.proofs.Turns.{After, steps-keep}
 use Rattle.places.proofs.Choosing.{Good, Sits, choose-sits}
@@ -53,19 +55,14 @@ Exact f x = (sp : Space) (i k : ℕ) → T (held (x .maps) sp i k) → Taken f (
 
 -- ---- The start
 
-zeros : (n i : ℕ) → getD {A = ℕ} (replicate n 0) i 0 ≡ 0
-zeros zero i = refl
-zeros (suc n) zero = refl
-zeros (suc n) (suc i) = zeros n i
-
 above : (f n i : ℕ) → f ≤ i → getD {A = ℕ} (replicate f 255 ++ replicate n 0) i 0 ≡ 0
-above zero n i l = zeros n i
+above zero n i l = getD-none n i
 above (suc f) n zero l = absurd (not-suc-le-zero l)
 above (suc f) n (suc i) l = above f n i (le-of-suc-le-suc l)
 
 pub start-exact : (a f w : ℕ) → Exact f (start a f w)
 unfolding fresh held
-start-exact a f w Work i k t = absurd (T-no (ap (λ (b : ℕ). bit b k) (zeros w i) ∙ bit-zero k) t)
+start-exact a f w Work i k t = absurd (T-no (ap (λ (b : ℕ). bit b k) (getD-none w i) ∙ bit-zero k) t)
 start-exact a f w App i k t = go (decLt i f)
   where
     go : Dec (i < f) → Taken f [] App i k

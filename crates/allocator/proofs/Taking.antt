@@ -9,6 +9,7 @@ use native.Mathlib.Decide.{decLt}
 use lib.Dec.{T, eqb, eqb-refl}
 use lib.ListN.{length, length-append, List·getD-append}
 use lib.Seq.{getD-append-seam}
+use Rattle.rows.proofs.Tests.{T-yes}
 use Rattle.records.specs.Pick.{pick, All}
 use Rattle.storages.specs.declared.Placement.{Placement}
 use Rattle.storages.specs.declared.Storage.{Storage}
@@ -25,7 +26,7 @@ use Rattle.places.specs.declared.choose.Chosen.the-variants.{Spot, Refused}
 use Rattle.places.specs.Memory.{Maps, reserve}
 use Rattle.places.specs.Place.{Given, Opened, noOpened, slotFor, choose, Placed, State, placedAt, takeRoom, stepBy, step, placeFrom}
 use Rattle.places.specs.Legal.{rightForm, LegalBy, Inside, OffLow, FixedSmall, MayShare, Pairs, Fine}
-use Rattle.places.proofs.Tests.{T-yes, any-last, all-snoc, all-map, all-map₂, pairs-snoc}
+use Rattle.places.proofs.Tests.{any-last, all-snoc, all-map, all-map₂, pairs-snoc}
 use Rattle.places.proofs.Rooms.{held, small-bit, clear-inside, clear-free, reserve-keeps, reserve-takes, reserve-length}
 use Rattle.turns.proofs.Joining.{slotAt, SlotFor, slot-for, Tries, tries-out, fits-out}
 use Rattle.turns.proofs.Turns.{After, steps-keep}

@@ -1,33 +1,21 @@
--- Tests over lists, and lists as sets and as relations. Each list is built by putting one after another, mapping, selecting or taking each, so what holds of
--- some element of it follows by recursion on the list; two tests are equal where each implies the other.
-use mathlib.Core.Path.{_≡_, refl, sym, ap, ap₂, _∙_, subst}
+-- Tests over lists, and lists as sets and as relations, as equations. Each list is built by mapping or selecting, or is given element by element, so what
+-- holds of some element of it follows by recursion on the list.
+use mathlib.Core.Path.{_≡_, refl, sym, ap, _∙_, subst}
 use mathlib.Core.Logic.{_⊎_, inl, inr}
-use mathlib.Core.Bool.{Bool, true, false, not, _&&_, _||_, or-assoc, true≢false}
-use mathlib.Core.List.{List, [], _∷_, _++_, map, List·Memᴰ, List·Memᴰ·head, List·Memᴰ·tail, List·Memᴰ·not-nil, List·Memᴰ·cases-cons}
+use mathlib.Core.Bool.{Bool, true, false, not, _&&_, _||_, true≢false}
+use mathlib.Core.List.{List, [], _∷_, map, List·Memᴰ, List·Memᴰ·head, List·Memᴰ·tail, List·Memᴰ·not-nil, List·Memᴰ·cases-cons}
 use Prim.Native.Nat.{ℕ, zero, suc, _<_}
 use native.Mathlib.Omega.{arith}
 use lib.Dec.{eqb}
 use lib.ListN.{length, getD}
-use borrow.Author.Tests.{eqb-true, eqb-false, eq-eqb, ne-eqb}
-use Rattle.records.specs.Pick.{pick, _and_, _or_, has}
-use Rattle.units.specs.Sets.{select, any, each}
+use borrow.Author.Tests.{eqb-true, eqb-false, eq-eqb, ne-eqb, not-true}
+use Rattle.rows.proofs.Tests.{either}
+use Rattle.records.specs.Pick.{pick, _or_, has}
+use Rattle.units.specs.Sets.{select, any}
+use Rattle.liveness.proofs.SetLaws.{any-cons, any-nil, any-map, has-any}
 use Rattle.graph.specs.Graph.{hasPair}
 
 -- ---- tests
-
-pub or-is : (a b : Bool) → (a or b) ≡ (a || b)
-unfolding pick
-or-is true b = refl
-or-is false b = refl
-
-pub and-is : (a b : Bool) → (a and b) ≡ (a && b)
-unfolding pick
-and-is true b = refl
-and-is false b = refl
-
-pub or-cases : (a b : Bool) → (a || b) ≡ true → (a ≡ true) ⊎ (b ≡ true)
-or-cases true b h = inl refl
-or-cases false b h = inr h
 
 pub or-left : (a b : Bool) → a ≡ true → (a || b) ≡ true
 or-left a b e = ap (λ (x : Bool). x || b) e
@@ -36,28 +24,8 @@ pub or-right : (a b : Bool) → b ≡ true → (a || b) ≡ true
 or-right true b e = refl
 or-right false b e = e
 
-pub and-both : (a b : Bool) → (a && b) ≡ true → (a ≡ true) × (b ≡ true)
-and-both true b h = (refl, h)
-and-both false b h = absurd (true≢false (sym h))
-
 pub and-in : (a b : Bool) → a ≡ true → b ≡ true → (a && b) ≡ true
 and-in a b e f = ap (λ (x : Bool). x && b) e ∙ f
-
-pub not-true : (a : Bool) → not a ≡ true → a ≡ false
-not-true true h = absurd (true≢false (sym h))
-not-true false h = refl
-
-pub same-test : (a b : Bool) → (a ≡ true → b ≡ true) → (b ≡ true → a ≡ true) → a ≡ b
-same-test true b p q = sym (p refl)
-same-test false true p q = q refl
-same-test false false p q = refl
-
-pub is-false : (a : Bool) → (a ≡ true → ⊥) → a ≡ false
-is-false true h = absurd (h refl)
-is-false false h = refl
-
-pub eqb-sym : (m n : ℕ) → eqb m n ≡ eqb n m
-eqb-sym m n = same-test (eqb m n) (eqb n m) (λ h. eq-eqb n m (sym (eqb-true m n h))) (λ h. eq-eqb m n (sym (eqb-true n m h)))
 
 pub not-eqb : (m n : ℕ) → ¬ (m ≡ n) → not (eqb m n) ≡ true
 not-eqb m n d = ap not (ne-eqb m n d)
@@ -68,28 +36,10 @@ not-eqb-out m n h = eqb-false m n (not-true (eqb m n) h)
 -- ---- some element
 
 module _ {A : Type 0} where
-  pub any-cons : (t : A → Bool) (a : A) (l : List A) → any t (a ∷ l) ≡ (t a || any t l)
-  unfolding any
-  any-cons t a l = or-is (t a) (any t l)
-
-  pub any-nil : (t : A → Bool) → any t [] ≡ false
-  unfolding any
-  any-nil t = refl
-
-  pub any-append : (t : A → Bool) (l m : List A) → any t (l ++ m) ≡ (any t l || any t m)
-  any-append t [] m = sym (ap (λ (x : Bool). x || any t m) (any-nil t))
-  any-append t (a ∷ l) m =
-      any-cons t a (l ++ m) ∙ ap (λ (x : Bool). t a || x) (any-append t l m) ∙ sym (or-assoc (t a) (any t l) (any t m))
-      ∙ ap (λ (x : Bool). x || any t m) (sym (any-cons t a l))
-
-  pub any-same : (t q : A → Bool) (l : List A) → ((a : A) → t a ≡ q a) → any t l ≡ any q l
-  any-same t q [] e = any-nil t ∙ sym (any-nil q)
-  any-same t q (a ∷ l) e = any-cons t a l ∙ ap₂ (λ (x y : Bool). x || y) (e a) (any-same t q l e) ∙ sym (any-cons q a l)
-
   -- where it holds, some element passes, and the other way round
   pub any-out : (t : A → Bool) (l : List A) → any t l ≡ true → (a : A) × List·Memᴰ a l × (t a ≡ true)
   any-out t [] h = absurd (true≢false (sym h ∙ any-nil t))
-  any-out t (a ∷ l) h = go (or-cases (t a) (any t l) (sym (any-cons t a l) ∙ h)) (any-out t l)
+  any-out t (a ∷ l) h = go (either (t a) (any t l) (sym (any-cons t a l) ∙ h)) (any-out t l)
     where
       go : (t a ≡ true) ⊎ (any t l ≡ true) → (any t l ≡ true → (b : A) × List·Memᴰ b l × (t b ≡ true)) → (b : A) × List·Memᴰ b (a ∷ l) × (t b ≡ true)
       go (inl p) ih = (a, List·Memᴰ·head refl, p)
@@ -126,33 +76,13 @@ module _ {A : Type 0} where
       go true n = List·Memᴰ·tail n
       go false n = n
 
-module _ {A B : Type 0} where
-  pub any-map : (t : B → Bool) (f : A → B) (l : List A) → any t (map f l) ≡ any (λ (a : A). t (f a)) l
-  unfolding any
-  any-map t f [] = refl
-  any-map t f (a ∷ l) = ap (λ (x : Bool). t (f a) or x) (any-map t f l)
-
-  pub any-each : (t : B → Bool) (f : A → List B) (l : List A) → any t (each f l) ≡ any (λ (a : A). any t (f a)) l
-  unfolding each
-  any-each t f [] = any-nil t ∙ sym (any-nil (λ (a : A). any t (f a)))
-  any-each t f (a ∷ l) =
-      any-append t (f a) (each f l) ∙ ap (λ (x : Bool). any t (f a) || x) (any-each t f l) ∙ sym (any-cons (λ (b : A). any t (f b)) a l)
-
 -- ---- a set of numbers
-
-pub has-any : (x : ℕ) (l : List ℕ) → has x l ≡ any (eqb x) l
-unfolding has any
-has-any x [] = refl
-has-any x (y ∷ l) = ap (λ (b : Bool). eqb x y or b) (has-any x l)
 
 pub has-mem : (x : ℕ) (l : List ℕ) → has x l ≡ true → List·Memᴰ x l
 has-mem x l h = let r = any-out (eqb x) l (sym (has-any x l) ∙ h) in subst (λ (y : ℕ). List·Memᴰ y l) (sym (eqb-true x (r .0) (r .2))) (r .1)
 
 pub mem-has : (x : ℕ) (l : List ℕ) → List·Memᴰ x l → has x l ≡ true
 mem-has x l m = has-any x l ∙ any-in (eqb x) m (eq-eqb x x refl)
-
-pub has-append : (x : ℕ) (l m : List ℕ) → has x (l ++ m) ≡ (has x l || has x m)
-has-append x l m = has-any x (l ++ m) ∙ any-append (eqb x) l m ∙ ap₂ (λ (a b : Bool). a || b) (sym (has-any x l)) (sym (has-any x m))
 
 module _ (f : ℕ → ℕ) where
   pub has-map-out : (i : ℕ) (l : List ℕ) → has i (map f l) ≡ true → (n : ℕ) × (has n l ≡ true) × (f n ≡ i)
@@ -176,14 +106,6 @@ has-at x (y ∷ l) h = go (eqb x y) refl h (has-at x l)
     go false e q ih = let r = ih q in (suc (r .0), omega (arith, r .1), r .2)
 
 -- ---- a relation
-
-pub pair-append : (l m : List (ℕ × ℕ)) (i j : ℕ) → hasPair (l ++ m) i j ≡ (hasPair l i j || hasPair m i j)
-unfolding hasPair
-pair-append l m i j = any-append (λ (p : ℕ × ℕ). eqb (p .0) i && eqb (p .1) j) l m
-
-pub pair-each : {A : Type 0} (f : A → List (ℕ × ℕ)) (l : List A) (i j : ℕ) → hasPair (each f l) i j ≡ any (λ (a : A). hasPair (f a) i j) l
-unfolding hasPair
-pair-each f l i j = any-each (λ (p : ℕ × ℕ). eqb (p .0) i && eqb (p .1) j) f l
 
 pub pair-map : {A : Type 0} (f : A → ℕ × ℕ) (l : List A) (i j : ℕ)
     → hasPair (map f l) i j ≡ any (λ (a : A). eqb (f a .0) i && eqb (f a .1) j) l

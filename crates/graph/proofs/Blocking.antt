@@ -1,8 +1,8 @@
 -- Block after block: what a block notes comes after what was noted before, since the order of the steps does not matter to the buffers. So a function's
 -- blocks leave its steps, each with what is live after it, and the survey says where the steps of each block begin.
-use mathlib.Core.Path.{_≡_, refl, sym, ap, _∙_, subst}
+use mathlib.Core.Path.{_≡_, sym, ap, _∙_, subst}
 use mathlib.Core.Logic.{_⊎_, inl, inr}
-use mathlib.Core.List.{List, [], _∷_, _++_, map, append-assoc, append-nil, List·Memᴰ, List·Memᴰ·head, List·Memᴰ·tail}
+use mathlib.Core.List.{List, [], _∷_, _++_, map, append-assoc, append-nil, List·Memᴰ, map-append, Memᴰ·map}
 use Prim.Native.Nat.{ℕ, zero, suc, _+_, _*_, _≤_, _<_}
 use native.Mathlib.Omega.{arith}
 use lib.ListN.{length, getD, take}
@@ -29,15 +29,11 @@ use Rattle.graph.specs.Walking.{usesAt, Noted, Told, useAt, Fits, Sized,
 use Rattle.graph.proofs.Meeting.{gathered-swap, paired-swap, addressed-swap}
 use Rattle.liveness.proofs.Solving.{out-rows, live-of-file}
 
-uses-append : (ps qs : List Stop) → usesAt (ps ++ qs) ≡ usesAt ps ++ usesAt qs
-uses-append [] qs = refl
-uses-append (p ∷ ps) qs = ap (λ (l : List Use). p .0 ∷ l) (uses-append ps qs)
-
 pub noted-swap : (us meets copies addressed : List ℕ) (ps qs : List Stop) → Noted us (ps ++ qs) meets copies addressed → Noted us (qs ++ ps) meets copies addressed
 noted-swap us meets copies addressed ps qs n = record {
   gathered = gathered-swap ps qs (n .gathered);
-  paired = subst (λ (l : List Use). Paired l copies) (sym (uses-append qs ps)) (paired-swap (usesAt ps) (usesAt qs) (subst (λ (l : List Use). Paired l copies) (uses-append ps qs) (n .paired)));
-  taken = subst (λ (l : List Use). Addressed l addressed) (sym (uses-append qs ps)) (addressed-swap (usesAt ps) (usesAt qs) (subst (λ (l : List Use). Addressed l addressed) (uses-append ps qs) (n .taken)));
+  paired = subst (λ (l : List Use). Paired l copies) (sym (map-append (λ (p : Stop). p .0) qs ps)) (paired-swap (usesAt ps) (usesAt qs) (subst (λ (l : List Use). Paired l copies) (map-append (λ (p : Stop). p .0) ps qs) (n .paired)));
+  taken = subst (λ (l : List Use). Addressed l addressed) (sym (map-append (λ (p : Stop). p .0) qs ps)) (addressed-swap (usesAt ps) (usesAt qs) (subst (λ (l : List Use). Addressed l addressed) (map-append (λ (p : Stop). p .0) ps qs) (n .taken)));
 }
 
 -- ---- one block
@@ -62,10 +58,6 @@ stops-more (x ∷ fs) (o ∷ os) (suc b) h l =
     ap (λ (r : List Stop). stopsIn (x .uses) o ++ r) (stops-more fs os b (omega arith) (omega arith))
     ∙ sym (append-assoc (stopsIn (x .uses) o) (stopsFrom (take b fs) os) (stopsIn (flowAt fs b .uses) (getD os b [])))
 
-mem-to : (g : Step → Use) (ss : List Step) {s : Step} → List·Memᴰ s ss → List·Memᴰ (g s) (map g ss)
-mem-to g (x ∷ ss) (List·Memᴰ·head e) = List·Memᴰ·head (ap g e)
-mem-to g (x ∷ ss) (List·Memᴰ·tail m) = List·Memᴰ·tail (mem-to g ss m)
-
 module _ (f found table : List ℕ) (own : Cursor) (places counts firsts : List ℕ) (count : ℕ) (words units rows meets copies addressed : List ℕ) where
   pub blocks-none : Sized meets copies addressed → BlocksTaken f found table own places counts firsts count words units rows 0 meets copies addressed meets copies addressed
   unfolding stopsFrom
@@ -89,7 +81,7 @@ module _ (f found table : List ℕ) (own : Cursor) (places counts firsts : List 
         let all = accepted-listed one f us (t .ready .accepted) fn (g .member) in
         let fe = uses-are us fn g in
         let fits : (s : Step) → List·Memᴰ s ss → Fits us (useAt f fn s) =
-        λ s m. let q = all (flowAt fs b) (mem-at fs b noFlow l) (useAt f fn s) (subst (λ (x : List Use). List·Memᴰ (useAt f fn s) x) (sym fe) (mem-to (useAt f fn) ss m)) in (q .reads, q .writes) in
+        λ s m. let q = all (flowAt fs b) (mem-at fs b noFlow l) (useAt f fn s) (subst (λ (x : List Use). List·Memᴰ (useAt f fn s) x) (sym fe) (Memᴰ·map (useAt f fn) m)) in (q .reads, q .writes) in
         let now = o us fn ss (getD os b []) (ps ++ stopsUpto f fn b) t (g .steps b low) (g .ends b low) fits (outs-among us fs all b) (g .outs b low) (h .noted us fn ps t g n) in
         let z : b + 1 ≡ suc b = omega arith in
         let e : stopsUpto f fn (b + 1) ≡ stopsUpto f fn b ++ stopsIn (map (useAt f fn) ss) (getD os b []) =

@@ -2,7 +2,7 @@
 -- leaves what none of them has. Each follows from the laws of one row and recursion on the list of what is put in.
 use mathlib.Core.Path.{_≡_, refl, sym, ap, ap₂, _∙_}
 use mathlib.Core.Logic.{_⊎_, inl, inr}
-use mathlib.Core.Bool.{Bool, true, false, not, _&&_, _||_, or-comm, or-false, and-true, true≢false}
+use mathlib.Core.Bool.{Bool, true, false, not, _&&_, _||_, or-comm, or-false, and-true, and-eq-true-iff, or-assoc, and-comm, true≢false}
 use mathlib.Core.List.{List, [], _∷_, _++_}
 use Prim.Native.Nat.{ℕ, zero, suc, _+_, _-_, _*_, _%_, _≤_, _<_}
 use native.Mathlib.Nat.{le-trans}
@@ -13,17 +13,20 @@ use lib.ListN.{length, getD}
 use lib.Pow.{pow-lt}
 use borrow.Author.Tests.{eqb-true, eqb-false, eq-eqb, lt-ltb, ltb-true}
 use Rattle.rows.specs.Row.{Words, member, memberAt, withAt, row, put, orRow, lessRow, less}
+use Rattle.rows.proofs.Tests.{either, same-test}
 use Rattle.rows.proofs.Rows.{length-row, length-zip, length-put, row-put-same, row-put-other, strides, strides-apart}
 use Rattle.rows.proofs.Members.{length-with-at, member-row, member-or, member-less, table-with, words-set}
 use Rattle.records.specs.Pick.{pick, _or_, has}
 use Rattle.records.specs.Edition.{one}
+use Rattle.records.proofs.Front.{or-is}
 use Rattle.units.specs.Sets.{any, each}
 use Rattle.units.specs.Uses.{storageOf}
+use Rattle.liveness.proofs.SetLaws.{eqb-sym}
 use Rattle.graph.specs.Graph.{hasPair}
 use Rattle.meetings.specs.Members.{membersFrom, ahead, members}
 use Rattle.meetings.specs.Meeting.{storageAt, storagesAt, paired, unitPairs, unitRows, lessRows, poured}
 use Rattle.meetings.specs.Closing.{linked}
-use Rattle.graph.proofs.Anys.{or-is, or-cases, or-left, or-right, and-both, and-in, same-test, eqb-sym, pair-nil, pair-cons}
+use Rattle.graph.proofs.Anys.{or-left, or-right, and-in, pair-nil, pair-cons}
 
 -- ---- the members of a row, in a list
 
@@ -101,10 +104,7 @@ unfolding withAt
 with-words ws b n h = words-set ws _ _ h (or-lt 64 _ _ (h _) (pow-lt {i = n % 64} {j = 64} (omega arith)))
 
 turn : (e h m : Bool) → (h || (e || m)) ≡ ((e || h) || m)
-turn true true m = refl
-turn true false m = refl
-turn false true m = refl
-turn false false m = refl
+turn e h m = sym (or-assoc h e m) ∙ ap (λ (t : Bool). t || m) (or-comm h e)
 
 module _ (w : ℕ) where
   pub length-paired : (ps : List (ℕ × ℕ)) (ws : List ℕ) → length (paired w ps ws) ≡ length ws
@@ -154,15 +154,9 @@ pair-twice [] i j = pair-nil i j ∙ sym (ap₂ (λ (x y : Bool). x || y) (pair-
 pair-twice (p ∷ ps) i j =
     pair-cons p ((p .1, p .0) ∷ twice ps) i j
     ∙ ap (λ (x : Bool). (eqb (p .0) i && eqb (p .1) j) || x) (pair-cons (p .1, p .0) (twice ps) i j)
-    ∙ ap₂ (λ (x y : Bool). (eqb (p .0) i && eqb (p .1) j) || (x || y)) (and-turn (eqb (p .1) i) (eqb (p .0) j)) (pair-twice ps i j)
+    ∙ ap₂ (λ (x y : Bool). (eqb (p .0) i && eqb (p .1) j) || (x || y)) (and-comm (eqb (p .1) i) (eqb (p .0) j)) (pair-twice ps i j)
     ∙ swap (eqb (p .0) i && eqb (p .1) j) (eqb (p .0) j && eqb (p .1) i) (hasPair ps i j) (hasPair ps j i)
     ∙ sym (ap₂ (λ (x y : Bool). x || y) (pair-cons p ps i j) (pair-cons p ps j i))
-  where
-    and-turn : (a b : Bool) → (a && b) ≡ (b && a)
-    and-turn true true = refl
-    and-turn true false = refl
-    and-turn false true = refl
-    and-turn false false = refl
 
 pub length-linked : (ps : List (ℕ × ℕ)) (g : List ℕ) → length (linked ps g) ≡ length g
 length-linked ps g = ap length (linked-twice ps g) ∙ length-paired 4 (twice ps) g
@@ -187,12 +181,12 @@ fit-units words k (suc n) h = (storage-low (getD words k 0), omega arith, fit-un
 pair-units-out : (words : List ℕ) (i m k n : ℕ) → hasPair (unitPairs words k n) i m ≡ true → (m < k + n) × (storageAt words m ≡ i)
 unfolding unitPairs
 pair-units-out words i m k zero h = absurd (true≢false (sym h ∙ pair-nil i m))
-pair-units-out words i m k (suc n) h = go (or-cases _ _ (sym (pair-cons (storageAt words k, k) (unitPairs words (suc k) n) i m) ∙ h)) (pair-units-out words i m (suc k) n)
+pair-units-out words i m k (suc n) h = go (either _ _ (sym (pair-cons (storageAt words k, k) (unitPairs words (suc k) n) i m) ∙ h)) (pair-units-out words i m (suc k) n)
   where
     go : ((eqb (storageAt words k) i && eqb k m) ≡ true) ⊎ (hasPair (unitPairs words (suc k) n) i m ≡ true)
         → (hasPair (unitPairs words (suc k) n) i m ≡ true → (m < suc k + n) × (storageAt words m ≡ i)) → (m < k + suc n) × (storageAt words m ≡ i)
     go (inl p) ih =
-        let b = and-both (eqb (storageAt words k) i) (eqb k m) p in
+        let b = and-eq-true-iff (eqb (storageAt words k) i) (eqb k m) .0 p in
         let z : k ≡ m = eqb-true k m (b .1) in
         (omega arith, ap (storageAt words) (sym z) ∙ eqb-true (storageAt words k) i (b .0))
     go (inr p) ih = let s = ih p in (omega (arith, s .0), s .1)
@@ -224,7 +218,7 @@ member-units words count i m rows c l h z =
 
     from : (ltb m count && eqb (storageAt words m) i) ≡ true → hasPair (unitPairs words 0 count) i m ≡ true
     from p =
-        let b = and-both (ltb m count) (eqb (storageAt words m) i) p in
+        let b = and-eq-true-iff (ltb m count) (eqb (storageAt words m) i) .0 p in
         pair-units-in words i m 0 count (omega arith) (omega (arith, ltb-true m count (b .0))) (eqb-true (storageAt words m) i (b .1))
 
 -- ---- a row less some rows

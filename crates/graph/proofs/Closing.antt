@@ -2,7 +2,7 @@
 -- addressed are those of one owner; and a buffer with the bits of a relation is the rows of that relation. So too the pairs of the copies.
 use mathlib.Core.Path.{_≡_, refl, sym, ap, ap₂, _∙_}
 use mathlib.Core.Logic.{_⊎_, inl, inr}
-use mathlib.Core.Bool.{Bool, true, false, not, _&&_, _||_, or-comm, or-false, true≢false}
+use mathlib.Core.Bool.{Bool, true, false, not, _&&_, _||_, or-comm, or-false, true≢false, and-eq-true-iff}
 use mathlib.Core.List.{List, [], _∷_, _++_}
 use Prim.Native.Nat.{ℕ, zero, suc, _+_, _*_, _≤_, _<_}
 use native.Mathlib.Omega.{arith}
@@ -11,6 +11,7 @@ use lib.ListN.{length, drop, replicate, length-replicate, take-append-drop, drop
 use lib.Seq.{drop-drop}
 use borrow.Author.Tests.{eqb-true, eqb-false, eq-eqb, lt-ltb, ltb-true}
 use Rattle.rows.specs.Row.{Words, memberAt, row, pack}
+use Rattle.rows.proofs.Tests.{either, same-test}
 use Rattle.rows.proofs.Rows.{length-row}
 use Rattle.rows.proofs.Members.{member-row, words-row, words-none}
 use Rattle.rows.proofs.Pack.{pack-unique}
@@ -18,7 +19,9 @@ use Rattle.records.specs.Pick.{pick, _and_, has}
 use Rattle.records.specs.Edition.{one}
 use Rattle.records.specs.Record.{Storage}
 use Rattle.records.specs.Program.{Program}
+use Rattle.records.proofs.Front.{and-is}
 use Rattle.units.specs.Sets.{any, each}
+use Rattle.liveness.proofs.SetLaws.{eqb-sym}
 use Rattle.graph.specs.Graph.{hasPair, clashes, allUses, addressed, sameOwner, held, interferes, copiesAt, copies, copied}
 use Rattle.graph.specs.Graphs.{relationRows}
 use Rattle.meetings.specs.Members.{members}
@@ -26,7 +29,8 @@ use Rattle.meetings.specs.Meeting.{storagesAt}
 use Rattle.storages.specs.File.{declared}
 use Rattle.meetings.specs.Closing.{linked, apart, apartAll, meetPairs, closed, ownPair, ownPairs, holdPairs, heldBy}
 use Rattle.graph.specs.Gathered.{stops, Numbered, Gathered, Paired, Addressed}
-use Rattle.graph.proofs.Anys.{and-is, or-cases, or-left, or-right, and-both, and-in, same-test, eqb-sym, not-eqb, not-eqb-out, any-out, any-in, has-mem, mem-has, pair-each, pair-append, pair-nil, pair-cons, pair-pick}
+use Rattle.graph.proofs.PairLaws.{pair-each, pair-append}
+use Rattle.graph.proofs.Anys.{or-left, or-right, and-in, not-eqb, not-eqb-out, any-out, any-in, has-mem, mem-has, pair-nil, pair-cons, pair-pick}
 use Rattle.graph.proofs.Buffers.{Low, Fit, fit-append, fit-each, storages-low, length-linked, words-linked, member-linked}
 use Rattle.graph.proofs.Meeting.{at-none, gathered-clashes, stops-clashes}
 
@@ -77,8 +81,8 @@ module _ (a i j : ℕ) (is : List ℕ) where
   unfolding apartAll
   all-out h =
       let b = any-out (λ (b : ℕ). hasPair (apart a b) i j) is (sym (pair-each (apart a) is i j) ∙ h) in
-      let c = and-both (not (eqb a (b .0))) (eqb a i && eqb (b .0) j) (sym (pair-apart a (b .0) i j) ∙ b .2) in
-      let d = and-both (eqb a i) (eqb (b .0) j) (c .1) in
+      let c = and-eq-true-iff (not (eqb a (b .0))) (eqb a i && eqb (b .0) j) .0 (sym (pair-apart a (b .0) i j) ∙ b .2) in
+      let d = and-eq-true-iff (eqb a i) (eqb (b .0) j) .0 (c .1) in
       let p : a ≡ i = eqb-true a i (d .0) in
       let q : b .0 ≡ j = eqb-true (b .0) j (d .1) in
       (p, and-in _ _ (not-eqb i j (λ e. not-eqb-out a (b .0) (c .0) (p ∙ e ∙ sym q))) (ap (λ (x : ℕ). has x is) (sym q) ∙ mem-has (b .0) is (b .1)))
@@ -86,7 +90,7 @@ module _ (a i j : ℕ) (is : List ℕ) where
   all-in : a ≡ i → (not (eqb i j) && has j is) ≡ true → hasPair (apartAll a is) i j ≡ true
   unfolding apartAll
   all-in e h =
-      let c = and-both (not (eqb i j)) (has j is) h in
+      let c = and-eq-true-iff (not (eqb i j)) (has j is) .0 h in
       pair-each (apart a) is i j
       ∙ any-in (λ (b : ℕ). hasPair (apart a b) i j) (has-mem j is (c .1))
       (pair-apart a j i j
@@ -109,7 +113,7 @@ module _ (meets words : List ℕ) where
   unfolding meetPairs
   meet-out i j k zero h = absurd (true≢false (sym h ∙ pair-nil i j))
   meet-out i j k (suc n) h =
-      go (or-cases _ _ (sym (pair-append (apartAll k (storagesAt words (members (row meets (k * 8) 8)))) (meetPairs meets words (suc k) n) i j) ∙ h)) (meet-out i j (suc k) n)
+      go (either _ _ (sym (pair-append (apartAll k (storagesAt words (members (row meets (k * 8) 8)))) (meetPairs meets words (suc k) n) i j) ∙ h)) (meet-out i j (suc k) n)
     where
       go : (hasPair (apartAll k (storagesAt words (members (row meets (k * 8) 8)))) i j ≡ true) ⊎ (hasPair (meetPairs meets words (suc k) n) i j ≡ true)
           → (hasPair (meetPairs meets words (suc k) n) i j ≡ true → near i j ≡ true) → near i j ≡ true
@@ -164,10 +168,10 @@ module _ (i j : ℕ) (x y : Storage) where
 
   own-out : hasPair (ownPair (x .id) (x .owner) y) i j ≡ true → Owned i j x y
   own-out h =
-      let q = and-both (eqb (y .owner) (x .owner) && ltb (y .id) 256) (not (eqb (x .id) (y .id)) && (eqb (x .id) i && eqb (y .id) j)) (sym own-is ∙ h) in
-      let o = and-both (eqb (y .owner) (x .owner)) (ltb (y .id) 256) (q .0) in
-      let c = and-both (not (eqb (x .id) (y .id))) (eqb (x .id) i && eqb (y .id) j) (q .1) in
-      let d = and-both (eqb (x .id) i) (eqb (y .id) j) (c .1) in
+      let q = and-eq-true-iff (eqb (y .owner) (x .owner) && ltb (y .id) 256) (not (eqb (x .id) (y .id)) && (eqb (x .id) i && eqb (y .id) j)) .0 (sym own-is ∙ h) in
+      let o = and-eq-true-iff (eqb (y .owner) (x .owner)) (ltb (y .id) 256) .0 (q .0) in
+      let c = and-eq-true-iff (not (eqb (x .id) (y .id))) (eqb (x .id) i && eqb (y .id) j) .0 (q .1) in
+      let d = and-eq-true-iff (eqb (x .id) i) (eqb (y .id) j) .0 (c .1) in
       let xi : x .id ≡ i = eqb-true (x .id) i (d .0) in
       let yj : y .id ≡ j = eqb-true (y .id) j (d .1) in
       record {
@@ -211,20 +215,20 @@ module _ (a : List ℕ) (all : List Storage) where
     owns-out : (x : Storage) → hasPair (ownPairs a all x) i j ≡ true
         → (¬ (i ≡ j)) × ((eqb (x .id) i && any (fellow j x) all) ≡ true) × (memberAt a 0 i ≡ true)
     owns-out x h =
-        let p = and-both (ltb (x .id) 256 && memberAt a 0 (x .id)) (any (λ (t : Storage). hasPair (ownPair (x .id) (x .owner) t) i j) all) (sym (owns x) ∙ h) in
+        let p = and-eq-true-iff (ltb (x .id) 256 && memberAt a 0 (x .id)) (any (λ (t : Storage). hasPair (ownPair (x .id) (x .owner) t) i j) all) .0 (sym (owns x) ∙ h) in
         let t = any-out (λ (t : Storage). hasPair (ownPair (x .id) (x .owner) t) i j) all (p .1) in
         let o = own-out i j x (t .0) (t .2) in (
           o .two,
           and-in _ _ (eq-eqb (x .id) i (o .of-i)) (any-in (fellow j x) (t .1) (and-in _ _ (eq-eqb (t .0 .id) j (o .of-j)) (o .one-owner))),
-          ap (memberAt a 0) (sym (o .of-i)) ∙ and-both (ltb (x .id) 256) (memberAt a 0 (x .id)) (p .0) .1,
+          ap (memberAt a 0) (sym (o .of-i)) ∙ and-eq-true-iff (ltb (x .id) 256) (memberAt a 0 (x .id)) .0 (p .0) .1,
         )
 
     owns-in : (x : Storage) → i < 256 → j < 256 → ¬ (i ≡ j) → (eqb (x .id) i && any (fellow j x) all) ≡ true → memberAt a 0 i ≡ true
         → hasPair (ownPairs a all x) i j ≡ true
     owns-in x hi hj two h m =
-        let p = and-both (eqb (x .id) i) (any (fellow j x) all) h in
+        let p = and-eq-true-iff (eqb (x .id) i) (any (fellow j x) all) .0 h in
         let t = any-out (fellow j x) all (p .1) in
-        let q = and-both (eqb (t .0 .id) j) (eqb (x .owner) (t .0 .owner)) (t .2) in
+        let q = and-eq-true-iff (eqb (t .0 .id) j) (eqb (x .owner) (t .0 .owner)) .0 (t .2) in
         let xi : x .id ≡ i = eqb-true (x .id) i (p .0) in
         owns x
         ∙ and-in _ _ (and-in _ _ (lt-ltb (x .id) 256 (omega arith)) (ap (memberAt a 0) xi ∙ m))
@@ -241,8 +245,8 @@ module _ (a : List ℕ) (all : List Storage) where
     hold-in : i < 256 → j < 256 → (not (eqb i j) && (owned i j && memberAt a 0 i)) ≡ true → hasPair (holdPairs a all) i j ≡ true
     unfolding holdPairs
     hold-in hi hj h =
-        let n = and-both (not (eqb i j)) (owned i j && memberAt a 0 i) h in
-        let o = and-both (owned i j) (memberAt a 0 i) (n .1) in
+        let n = and-eq-true-iff (not (eqb i j)) (owned i j && memberAt a 0 i) .0 h in
+        let o = and-eq-true-iff (owned i j) (memberAt a 0 i) .0 (n .1) in
         let s = any-out (λ (s : Storage). eqb (s .id) i && any (fellow j s) all) all (o .0) in
         pair-each (ownPairs a all) all i j
         ∙ any-in (λ (s : Storage). hasPair (ownPairs a all s) i j) (s .1) (owns-in (s .0) hi hj (not-eqb-out i j (n .0)) (s .2) (o .1))

@@ -6,15 +6,16 @@ use mathlib.Core.List.{List, [], map, List·Memᴰ}
 use Prim.Native.Nat.{ℕ, _≤_, min, max}
 use native.Mathlib.Omega.{arith}
 use lib.Dec.{T, eqb, eqb→eq}
+use Rattle.rows.proofs.Tests.{and-l, and-r, T-yes}
 use Rattle.records.specs.Pick.{pick}
 use Rattle.records.specs.Edition.{Edition}
 use Rattle.records.specs.Program.{Program}
 use Rattle.units.specs.Sets.{any, each}
 use Rattle.units.specs.Uses.{storageOf}
 use Rattle.liveness.specs.Flow.{Use}
-use Rattle.liveness.proofs.SetLaws.{and-l, and-r, T-yes, any-nil, any-map, any-each, any-out}
+use Rattle.liveness.proofs.SetLaws.{any-nil, any-map, any-each, any-out}
 use Rattle.graph.specs.Graph.{hasPair, isCopy, copiesAt, copies, copied, allUses}
-use Rattle.graph.proofs.PairLaws.{hasPair-each}
+use Rattle.graph.proofs.PairLaws.{pair-each}
 
 -- A pair (i, j) of a copying step.
 pub record Copy (e : Edition) (s : Use) (i j : ℕ) : Type 0 where
@@ -57,7 +58,7 @@ module _ (e : Edition) (i j : ℕ) where
   pub copied-out : (p : Program) → copied e p i j ≡ true → (s : Use) × List·Memᴰ s (allUses e p) × Copy e s i j
   unfolding copied copies
   copied-out p h =
-      let a = any-out (λ s. hasPair (copiesAt e s) i j) (allUses e p) (subst T (hasPair-each (copiesAt e) (allUses e p) i j) (T-yes h)) in
+      let a = any-out (λ s. hasPair (copiesAt e s) i j) (allUses e p) (subst T (pair-each (copiesAt e) (allUses e p) i j) (T-yes h)) in
       (a .0, a .1, copy-out (a .0) (a .2))
 
   pub copied-rises : (p : Program) → copied e p i j ≡ true → i ≤ j

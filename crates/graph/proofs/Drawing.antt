@@ -69,7 +69,7 @@ module _ (f : List ℕ) (r : Checked) (words found : List ℕ) (h : R.Numbers f 
     drawn-done m live graph copies call =
         let w = counted-of n e in drawn f (w .0) found words n m live graph copies (w .1) (call (w .0) (w .1))
 
-none : (a b c d : Bool) → a ≡ false → b ≡ false → c ≡ false → d ≡ false → (a or (b or (c or d))) ≡ false
+pub none : (a b c d : Bool) → a ≡ false → b ≡ false → c ≡ false → d ≡ false → (a or (b or (c or d))) ≡ false
 unfolding pick
 none a b c d p q r s = rw (p, q, r) s
 

@@ -9,6 +9,7 @@ use native.Mathlib.Omega.{arith}
 use native.Mathlib.Nat.{not-suc-le-zero}
 use lib.Dec.{T, eqb, eqb→eq, eqb-refl, T-not, not-T}
 use lib.ListN.{length, getD}
+use Rattle.rows.proofs.Tests.{or-cases, or-l, or-r, and-l, and-r, and-in, T-true, T-false, T-yes, T-no}
 use Rattle.records.specs.Pick.{has}
 use Rattle.records.specs.Edition.{Edition}
 use Rattle.records.specs.Program.{Program}
@@ -16,11 +17,11 @@ use Rattle.units.specs.Uses.{storageOf}
 use Rattle.passes.specs.Live as L
 use Rattle.liveness.specs.Flow.{Use, Flow, flows}
 use Rattle.liveness.specs.Settle.{stepView, views, before, flowAt, settledBy}
-use Rattle.liveness.proofs.SetLaws.{or-cases, or-l, or-r, and-l, and-r, and-in, T-true, T-false, T-yes, T-not as not-yes, eqb-sym, eqb-yes, any-nil, any-out, any-in}
+use Rattle.liveness.proofs.SetLaws.{eqb-sym, eqb-yes, any-nil, any-out, any-in}
 use Rattle.liveness.proofs.SettleLaws.{settled-outs, live-there}
 use Rattle.graph.specs.Graph.{hasPair, spared, clashesAt, clashesIn, clashesFrom, clashesOf, clashes, held, interferes}
 use Rattle.graph.specs.Paths.{Meets, MeetsIn, Interfere}
-use Rattle.graph.proofs.PairLaws.{hasPair-each, pair-cases, pair-l, pair-r}
+use Rattle.graph.proofs.PairLaws.{pair-each, pair-cases, pair-l, pair-r}
 use Rattle.graph.proofs.StepLaws.{Pair, pair-out, pair-in}
 
 -- No storage interferes with itself; and the graph is symmetric.
@@ -154,7 +155,7 @@ module _ (e : Edition) (i j : ℕ) where
                 and-in (not (eqb (storageOf e (m .written)) (storageOf e (m .other)))) (not (spared e (m .step) (m .other)))
                 (not-T (eqb (storageOf e (m .written)) (storageOf e (m .other)))
                 (λ h. two (sym (m .of-i) ∙ (eqb→eq (storageOf e (m .written)) (storageOf e (m .other)) h ∙ m .of-j))))
-                (not-T (spared e (m .step) (m .other)) (not-yes (m .unspared)));
+                (not-T (spared e (m .step) (m .other)) (T-no (m .unspared)));
             wanted = now (m .wanted);
           }
 
@@ -164,13 +165,13 @@ module _ (e : Edition) (p : Program) where
   program-out : (i j : ℕ) → T (hasPair (clashes e p) i j) → MeetsIn e p i j
   unfolding clashes
   program-out i j h =
-      let a = any-out (λ f. hasPair (clashesOf e (flows e p f)) i j) (p .functions) (subst T (hasPair-each (λ f. clashesOf e (flows e p f)) (p .functions) i j) h) in
+      let a = any-out (λ f. hasPair (clashesOf e (flows e p f)) i j) (p .functions) (subst T (pair-each (λ f. clashesOf e (flows e p f)) (p .functions) i j) h) in
       (a .0, a .1, meets-out e i j (flows e p (a .0)) (a .2))
 
   program-in : (i j : ℕ) → ¬ (i ≡ j) → MeetsIn e p i j → T (hasPair (clashes e p) i j)
   unfolding clashes
   program-in i j two m =
-      subst T (sym (hasPair-each (λ f. clashesOf e (flows e p f)) (p .functions) i j))
+      subst T (sym (pair-each (λ f. clashesOf e (flows e p f)) (p .functions) i j))
       (any-in (λ f. hasPair (clashesOf e (flows e p f)) i j) (m .1) (meets-in e i j (flows e p (m .0)) two (m .2)))
 
   pub interferes-iff : (i j : ℕ) → (interferes e p i j ≡ true) ↔ Interfere e p i j

@@ -2,7 +2,7 @@
 -- buffers what it adds to the relations, so after all steps the meetings are the clashes, the pairs the copies, the row the addressed storages.
 use mathlib.Core.Path.{_≡_, refl, sym, ap, ap₂, _∙_, subst}
 use mathlib.Core.Logic.{_⊎_, inl, inr}
-use mathlib.Core.Bool.{Bool, true, false, not, _&&_, _||_, or-comm}
+use mathlib.Core.Bool.{Bool, true, false, not, _&&_, _||_, or-comm, and-eq-true-iff, and-or-distrib-left}
 use mathlib.Core.List.{List, [], _∷_, _++_, map, List·Memᴰ, List·Memᴰ·head, List·Memᴰ·tail, List·Memᴰ·not-nil, List·Memᴰ·append-cases, Memᴰ·append-left, Memᴰ·append-right}
 use Prim.Native.Nat.{ℕ, _+_, _-_, _*_, _/_, _%_, _<_, min, max}
 use native.Mathlib.Omega.{arith}
@@ -11,6 +11,7 @@ use lib.Dec.{eqb, ltb}
 use lib.ListN.{length, getD, drop, replicate, length-replicate, length-append, List·getD-append}
 use borrow.Author.Tests.{eqb-true, eq-eqb, lt-ltb, ltb-true}
 use Rattle.rows.specs.Row.{bit, member, memberAt, row, orRow}
+use Rattle.rows.proofs.Tests.{either, same-test}
 use Rattle.rows.proofs.Rows.{length-row, length-zip}
 use Rattle.rows.proofs.Digit.{bit-zero}
 use Rattle.rows.proofs.Members.{getD-none, words-none, member-row, member-or}
@@ -19,16 +20,19 @@ use Rattle.records.specs.Pick.{pick, pick-yes, pick-no, has}
 use Rattle.records.specs.Edition.{Edition, one}
 use Rattle.records.specs.Outcome.{laid}
 use Rattle.records.specs.Program.{Function, Program}
+use Rattle.records.proofs.Front.{and-is}
 use Rattle.units.specs.Sets.{select, any, each}
 use Rattle.units.specs.Uses.{storageOf, storagesOf, isInstruction}
 use Rattle.units.specs.Rows.{listed, unitRow}
 use Rattle.liveness.specs.Flow.{Use, Flow, flows}
 use Rattle.liveness.specs.Settle.{before, settledBy}
+use Rattle.liveness.proofs.SetLaws.{eqb-sym, any-cons, any-nil, any-append, any-map, any-each, any-same, has-any, has-append}
 use Rattle.graph.specs.Graph.{hasPair, inStorage, isCopy, spared, clash, clashesAt, clashesIn, clashesFrom, clashesOf, clashes, copiesAt}
 use Rattle.meetings.specs.Members.{members}
 use Rattle.meetings.specs.Meeting.{storageAt, storagesAt, unitRows, lessRows, wanted, met, pairsTo, copyPairs, copiesNoted, addressedNoted}
 use Rattle.graph.specs.Gathered.{Stop, stopsIn, stopsFrom, stopsOf, stops, Numbered, Within, UnitRows, wants, Gathered, Paired, Addressed}
-use Rattle.graph.proofs.Anys.{and-is, or-cases, and-both, and-in, same-test, eqb-sym, not-eqb, not-eqb-out, any-cons, any-nil, any-append, any-map, any-each, any-same, any-out, any-in, mem-select, select-mem, has-any, has-mem, mem-has, has-append, has-map-out, has-map-in, has-at, pair-each, pair-map, pair-nil, pair-append}
+use Rattle.graph.proofs.PairLaws.{pair-each, pair-append}
+use Rattle.graph.proofs.Anys.{and-in, not-eqb, not-eqb-out, any-out, any-in, mem-select, select-mem, has-mem, mem-has, has-map-out, has-map-in, has-at, pair-map, pair-nil}
 use Rattle.graph.proofs.Buffers.{members-out, members-in, storages-low, Low, Fit, fit-append, length-paired, words-paired, member-paired, member-units, member-less-rows, length-less-rows, length-poured, member-poured}
 
 -- ---- the storages of a row are the storages of its set
@@ -63,7 +67,7 @@ module _ {us words : List ℕ} (k : Numbered us words) where
       to h =
           let a = has-map-out (storageAt words) i (members (unitRow one us set)) h in
           let b = members-out (unitRow one us set) (a .0) (a .1) in
-          let c = and-both (ltb (a .0) (length us)) (has (getD us (a .0) 0) set) (sym (row-member set (a .0) (omega (arith, b .0, row-length set))) ∙ b .1) in
+          let c = and-eq-true-iff (ltb (a .0) (length us)) (has (getD us (a .0) 0) set) .0 (sym (row-member set (a .0) (omega (arith, b .0, row-length set))) ∙ b .1) in
           has-map-in (storageOf one) i (getD us (a .0) 0) set (c .1)
           (ap (storageOf one) (sym (word-at (a .0) (ltb-true (a .0) (length us) (c .0)))) ∙ a .2)
 
@@ -81,11 +85,7 @@ module _ {us words : List ℕ} (k : Numbered us words) where
 -- ---- what a step adds to the meetings
 
 both-rows : (a x y : Bool) → ((a && y) || (a && x)) ≡ (a && (x || y))
-both-rows true true true = refl
-both-rows true true false = refl
-both-rows true false true = refl
-both-rows true false false = refl
-both-rows false x y = refl
+both-rows a x y = sym (and-or-distrib-left a y x) ∙ ap (λ (t : Bool). a && t) (or-comm y x)
 
 step-under : (a x y : Bool) → (a ≡ true → x ≡ y) → (a && x) ≡ (a && y)
 step-under true x y h = h refl
@@ -119,8 +119,8 @@ module _ {us words units : List ℕ} (k : Numbered us words) (u : UnitRows us wo
     both-length : length lived ≡ length read
     both-length = row-length k live ∙ sym (row-length k (s .reads))
 
-    either : (n : ℕ) → n < 512 → member (orRow lived read) n ≡ (ltb n (length us) && has (getD us n 0) (s .reads ++ live))
-    either n h =
+    in-either : (n : ℕ) → n < 512 → member (orRow lived read) n ≡ (ltb n (length us) && has (getD us n 0) (s .reads ++ live))
+    in-either n h =
         member-or lived read n both-length ∙ ap₂ (λ (x y : Bool). x || y) (row-member k live n h) (row-member k (s .reads) n h)
         ∙ both-rows (ltb n (length us)) (has (getD us n 0) (s .reads)) (has (getD us n 0) live)
         ∙ ap (λ (x : Bool). ltb n (length us) && x) (sym (has-append (getD us n 0) (s .reads) live))
@@ -156,10 +156,10 @@ module _ {us words units : List ℕ} (k : Numbered us words) (u : UnitRows us wo
         go true =
             member-less-rows units units-length (storagesAt words (members (unitRow one us (s .reads)))) (orRow (unitRow one us live) (unitRow one us (s .reads))) n o
             (storages-low words (members (unitRow one us (s .reads)))) h
-            ∙ ap (λ (x : Bool). x && not (any (λ (i : ℕ). memberAt units (i * 8) n) (storagesAt words (members (unitRow one us (s .reads)))))) (either n h)
+            ∙ ap (λ (x : Bool). x && not (any (λ (i : ℕ). memberAt units (i * 8) n) (storagesAt words (members (unitRow one us (s .reads)))))) (in-either n h)
             ∙ regroup (ltb n (length us)) (has (getD us n 0) (s .reads ++ live)) _
             ∙ step-under (ltb n (length us)) _ _ (λ t. ap (λ (x : Bool). has (getD us n 0) (s .reads ++ live) && not x) (gone n h (ltb-true n (length us) t)))
-        go false = either n h ∙ ap (λ (x : Bool). ltb n (length us) && x) (keep-true (has (getD us n 0) (s .reads ++ live)))
+        go false = in-either n h ∙ ap (λ (x : Bool). ltb n (length us) && x) (keep-true (has (getD us n 0) (s .reads ++ live)))
 
     pub meet-length : (meets : List ℕ) → length meets ≡ 2048 → length (met meets units words lived read (unitRow one us (s .writes)) (isCopy s)) ≡ 2048
     unfolding met
@@ -202,7 +202,7 @@ gathered-on {us} {words} {units} {ps} {meets} k u g s live wr ww wl = record {
     here v (inr q) = wl v q
 
     known : (p : Stop) → List·Memᴰ p ((s, live) ∷ ps) → Within us (p .0 .reads ++ p .1)
-    known p (List·Memᴰ·head e) v h = here v (or-cases _ _ (sym (has-append v (s .reads) live) ∙ subst (λ (q : Stop). has v (q .0 .reads ++ q .1) ≡ true) e h))
+    known p (List·Memᴰ·head e) v h = here v (either _ _ (sym (has-append v (s .reads) live) ∙ subst (λ (q : Stop). has v (q .0 .reads ++ q .1) ≡ true) e h))
     known p (List·Memᴰ·tail m) v h = g .known p m v h
 
 -- The order of the steps does not matter.
@@ -241,8 +241,8 @@ module _ (s : Use) (live : List ℕ) (i j : ℕ) where
       let a = any-out _ (s .writes) (sym clash-any ∙ h) in
       let b = any-out _ (select (clash one s (a .0)) (s .reads ++ live)) (a .2) in
       let c = mem-select (clash one s (a .0)) (s .reads ++ live) (b .1) in
-      let d = and-both _ _ (b .2) in
-      let f = and-both _ _ (c .1) in
+      let d = and-eq-true-iff _ _ .0 (b .2) in
+      let f = and-eq-true-iff _ _ .0 (c .1) in
       let di : storageOf one (a .0) ≡ i = eqb-true _ _ (d .0) in
       let dj : storageOf one (b .0) ≡ j = eqb-true _ _ (d .1) in (
         record {
@@ -299,7 +299,7 @@ gathered-clashes {us} {words} {meets} {ps} k g i j low = same-test _ _ to from
     from : (not (eqb i j) && has j (storagesAt words (members (row meets (i * 8) 8)))) ≡ true
         → any (λ (p : Stop). hasPair (clashesAt one (p .0) (p .1)) i j) ps ≡ true
     from h =
-        let d = and-both (not (eqb i j)) (has j (storagesAt words (members (row meets (i * 8) 8)))) h in
+        let d = and-eq-true-iff (not (eqb i j)) (has j (storagesAt words (members (row meets (i * 8) 8)))) .0 h in
         let a = has-map-out (storageAt words) j (members (row meets (i * 8) 8)) (d .1) in
         let b = members-out (row meets (i * 8) 8) (a .0) (a .1) in
         let l : a .0 < 512 = omega (arith, b .0, full) in
@@ -307,9 +307,9 @@ gathered-clashes {us} {words} {meets} {ps} k g i j low = same-test _ _ to from
         (sym (g .holds i (a .0) l) ∙ sym (member-row meets (i * 8) 8 (a .0) l) ∙ b .1) in
         let s = c .0 .0 in
         let live = c .0 .1 in
-        let e = and-both (inStorage one (s .writes) i) (wants us s live (a .0)) (c .2) in
-        let f = and-both (ltb (a .0) (length us)) (has (getD us (a .0) 0) (s .reads ++ live) && not (spared one s (getD us (a .0) 0))) (e .1) in
-        let f′ = and-both (has (getD us (a .0) 0) (s .reads ++ live)) (not (spared one s (getD us (a .0) 0))) (f .1) in
+        let e = and-eq-true-iff (inStorage one (s .writes) i) (wants us s live (a .0)) .0 (c .2) in
+        let f = and-eq-true-iff (ltb (a .0) (length us)) (has (getD us (a .0) 0) (s .reads ++ live) && not (spared one s (getD us (a .0) 0))) .0 (e .1) in
+        let f′ = and-eq-true-iff (has (getD us (a .0) 0) (s .reads ++ live)) (not (spared one s (getD us (a .0) 0))) .0 (f .1) in
         let w = has-map-out (storageOf one) i (s .writes) (e .0) in
         any-in (λ (p : Stop). hasPair (clashesAt one (p .0) (p .1)) i j) (c .1)
         (clash-in s live i j (not-eqb-out i j (d .0)) (record {

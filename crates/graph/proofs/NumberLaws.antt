@@ -7,13 +7,14 @@ use mathlib.Core.List.{List}
 use Prim.Native.Nat.{ℕ, _<_}
 use lib.Dec.{ltb}
 use lib.ListN.{length, getD}
+use Rattle.rows.proofs.Tests.{and-r, T-true, T-yes}
 use Rattle.records.specs.Pick.{has}
 use Rattle.records.specs.Edition.{Edition}
 use Rattle.records.specs.Units.{numberIn}
 use Rattle.records.proofs.Numbers.{number-low, number-at}
 use Rattle.units.specs.Uses.{storageOf}
 use Rattle.units.specs.Rows.{listed}
-use Rattle.liveness.proofs.SetLaws.{and-r, T-true, T-yes, has-mem, mem-has}
+use Rattle.liveness.proofs.SetLaws.{has-mem, mem-has}
 use Rattle.liveness.proofs.Numbered.{Among}
 use Rattle.liveness.proofs.Rows.{listed-is, listed-number}
 use Rattle.graph.specs.Graph.{inStorage}

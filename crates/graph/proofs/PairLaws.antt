@@ -6,28 +6,29 @@ use mathlib.Core.Bool.{_&&_, _||_}
 use mathlib.Core.List.{List, _++_, List·Memᴰ}
 use Prim.Native.Nat.{ℕ}
 use lib.Dec.{T, eqb, eqb→eq}
+use Rattle.rows.proofs.Tests.{or-cases, or-l, or-r}
 use Rattle.records.specs.Edition.{Edition}
 use Rattle.units.specs.Sets.{any, each}
 use Rattle.units.specs.Uses.{storageOf, storagesOf}
-use Rattle.liveness.proofs.SetLaws.{or-cases, or-l, or-r, eqb-yes, any-append, any-each, any-map, any-out, any-in, has-any}
+use Rattle.liveness.proofs.SetLaws.{eqb-yes, any-append, any-each, any-map, any-out, any-in, has-any}
 use Rattle.graph.specs.Graph.{hasPair, inStorage}
 
-pub hasPair-append : (l m : List (ℕ × ℕ)) (i j : ℕ) → hasPair (l ++ m) i j ≡ (hasPair l i j || hasPair m i j)
+pub pair-append : (l m : List (ℕ × ℕ)) (i j : ℕ) → hasPair (l ++ m) i j ≡ (hasPair l i j || hasPair m i j)
 unfolding hasPair
-hasPair-append l m i j = any-append (λ (p : ℕ × ℕ). eqb (p .0) i && eqb (p .1) j) l m
+pair-append l m i j = any-append (λ (p : ℕ × ℕ). eqb (p .0) i && eqb (p .1) j) l m
 
-pub hasPair-each : {A : Type 0} (f : A → List (ℕ × ℕ)) (l : List A) (i j : ℕ) → hasPair (each f l) i j ≡ any (λ a. hasPair (f a) i j) l
+pub pair-each : {A : Type 0} (f : A → List (ℕ × ℕ)) (l : List A) (i j : ℕ) → hasPair (each f l) i j ≡ any (λ a. hasPair (f a) i j) l
 unfolding hasPair
-hasPair-each f l i j = any-each (λ (p : ℕ × ℕ). eqb (p .0) i && eqb (p .1) j) f l
+pair-each f l i j = any-each (λ (p : ℕ × ℕ). eqb (p .0) i && eqb (p .1) j) f l
 
 pub pair-cases : (l m : List (ℕ × ℕ)) (i j : ℕ) → T (hasPair (l ++ m) i j) → T (hasPair l i j) ⊎ T (hasPair m i j)
-pair-cases l m i j h = or-cases (hasPair l i j) (hasPair m i j) (subst T (hasPair-append l m i j) h)
+pair-cases l m i j h = or-cases (hasPair l i j) (hasPair m i j) (subst T (pair-append l m i j) h)
 
 pub pair-l : (l m : List (ℕ × ℕ)) (i j : ℕ) → T (hasPair l i j) → T (hasPair (l ++ m) i j)
-pair-l l m i j h = rw (hasPair-append l m i j) (or-l (hasPair l i j) (hasPair m i j) h)
+pair-l l m i j h = rw (pair-append l m i j) (or-l (hasPair l i j) (hasPair m i j) h)
 
 pub pair-r : (l m : List (ℕ × ℕ)) (i j : ℕ) → T (hasPair m i j) → T (hasPair (l ++ m) i j)
-pair-r l m i j h = rw (hasPair-append l m i j) (or-r (hasPair l i j) (hasPair m i j) h)
+pair-r l m i j h = rw (pair-append l m i j) (or-r (hasPair l i j) (hasPair m i j) h)
 
 module _ (e : Edition) (us : List ℕ) (i : ℕ) where
   pub in-storage : inStorage e us i ≡ any (λ u. eqb i (storageOf e u)) us

@@ -6,15 +6,15 @@ use mathlib.Core.Bool.{Bool, not, _&&_}
 use mathlib.Core.List.{List, _++_, map, List·Memᴰ}
 use Prim.Native.Nat.{ℕ}
 use lib.Dec.{T, eqb, eqb→eq}
+use Rattle.rows.proofs.Tests.{antisym, or-cases, or-l, or-r, and-l, and-r, and-in}
 use Rattle.records.specs.Pick.{has}
 use Rattle.records.specs.Edition.{Edition}
 use Rattle.units.specs.Sets.{select, any}
 use Rattle.units.specs.Uses.{storageOf}
-use Rattle.passes.proofs.Laws.{antisym}
 use Rattle.liveness.specs.Flow.{Use}
-use Rattle.liveness.proofs.SetLaws.{or-cases, or-l, or-r, and-l, and-r, and-in, eqb-yes, any-select, any-map, any-out, any-in, any-same, has-mem, mem-has, has-append}
+use Rattle.liveness.proofs.SetLaws.{eqb-yes, any-select, any-map, any-out, any-in, any-same, has-mem, mem-has, has-append}
 use Rattle.graph.specs.Graph.{hasPair, inStorage, isCopy, spared, clash, clashesAt}
-use Rattle.graph.proofs.PairLaws.{hasPair-each, in-storage-in, in-storage-out}
+use Rattle.graph.proofs.PairLaws.{pair-each, in-storage-in, in-storage-out}
 
 module _ (e : Edition) (s : Use) where
   abbrev both : ℕ → ℕ → ℕ → ℕ → Bool
@@ -23,7 +23,7 @@ module _ (e : Edition) (s : Use) where
   at-any : (live : List ℕ) (i j : ℕ) → hasPair (clashesAt e s live) i j ≡ any (λ w. any (λ v. clash e s w v && both i j w v) (s .reads ++ live)) (s .writes)
   unfolding clashesAt hasPair
   at-any live i j =
-      hasPair-each pairs (s .writes) i j
+      pair-each pairs (s .writes) i j
       ∙ any-same (λ w. hasPair (pairs w) i j) (λ w. any (λ v. clash e s w v && both i j w v) (s .reads ++ live)) (s .writes) one
     where
       pairs : ℕ → List (ℕ × ℕ)

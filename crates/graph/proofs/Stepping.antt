@@ -2,7 +2,7 @@
 -- and the live row goes over it. A block's steps are taken from the last to the first, each with what is live after it.
 use mathlib.Core.Path.{_≡_, refl, sym, ap, ap₂, _∙_, subst}
 use mathlib.Core.Logic.{_⊎_, inl, inr}
-use mathlib.Core.Bool.{Bool, true, false, not, _&&_, _||_, or-comm}
+use mathlib.Core.Bool.{Bool, true, false, not, _&&_, _||_, or-comm, and-eq-true-iff}
 use mathlib.Core.List.{List, [], _∷_, _++_, map, List·Memᴰ, List·Memᴰ·head, List·Memᴰ·tail}
 use Prim.Native.Nat.{ℕ, zero, suc, _+_, _≤_, _<_}
 use native.Mathlib.Omega.{arith}
@@ -11,6 +11,7 @@ use lib.Dec.{eqb, ltb}
 use lib.ListN.{length, getD, drop}
 use lib.Seq.{getD-drop}
 use Rattle.rows.specs.Row.{row, put, orRow, lessRow}
+use Rattle.rows.proofs.Tests.{either}
 use Rattle.rows.proofs.Rows.{row-whole, put-whole, length-zip}
 use Rattle.records.specs.Pick.{pick, has}
 use Rattle.records.specs.Edition.{one}
@@ -31,7 +32,6 @@ use Rattle.graph.specs.Graph.{isCopy}
 use Rattle.meetings.specs.Meeting.{met, copiesNoted, addressedNoted}
 use Rattle.graph.specs.Gathered.{Stop, stopsIn, Numbered, Within, UnitRows, Gathered, Paired, Addressed}
 use Rattle.graph.specs.Walking.{operationAt, across, usesAt, Noted, Told, useAt, Fits, Sized, StepTaken, BlockTaken}
-use Rattle.graph.proofs.Anys.{or-cases, and-both}
 use Rattle.graph.proofs.Meeting.{gathered-on, paired-on, paired-skip, addressed-on, addressed-skip}
 
 -- ---- the operation of a step
@@ -93,11 +93,11 @@ row-across us s out =
     has-append u (less out (s .writes)) (s .reads) ∙ or-comm (has u (less out (s .writes))) (has u (s .reads)) ∙ sym (has-join u (s .reads) (less out (s .writes))))
 
 across-within : (us : List ℕ) (s : Use) (out : List ℕ) → Within us (s .reads) → Within us out → Within us (across s out)
-across-within us s out wr wo u h = go (or-cases _ _ (sym (has-join u (s .reads) (less out (s .writes))) ∙ h))
+across-within us s out wr wo u h = go (either _ _ (sym (has-join u (s .reads) (less out (s .writes))) ∙ h))
   where
     go : (has u (s .reads) ≡ true) ⊎ (has u (less out (s .writes)) ≡ true) → has u us ≡ true
     go (inl q) = wr u q
-    go (inr q) = wo u (and-both (has u out) (not (has u (s .writes))) (sym (has-less u out (s .writes)) ∙ q) .0)
+    go (inr q) = wo u (and-eq-true-iff (has u out) (not (has u (s .writes))) .0 (sym (has-less u out (s .writes)) ∙ q) .0)
 
 before-within : (us f : List ℕ) (fn : Function) (ss : List Step) (out : List ℕ) → ((s : Step) → List·Memᴰ s ss → Fits us (useAt f fn s)) → Within us out
     → Within us (before (map (useAt f fn) ss) out)

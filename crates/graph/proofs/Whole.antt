@@ -1,7 +1,7 @@
 -- Once all functions are noted the buffers hold the whole program: the stops of a program are its steps, in order, so that what was noted of them is what
 -- the graph, the copies and the addressed storages are defined by.
 use mathlib.Core.Path.{_≡_, refl, sym, ap, ap₂, _∙_, subst}
-use mathlib.Core.List.{List, [], _∷_, _++_, map}
+use mathlib.Core.List.{List, [], _∷_, _++_, map, map-append}
 use Prim.Native.Nat.{ℕ, _≤_}
 use native.Mathlib.Omega.{arith}
 use lib.ListN.{length, replicate}
@@ -25,10 +25,6 @@ use Rattle.meetings.specs.Closing.{closed, heldBy}
 use Rattle.graph.proofs.Closing.{graph-is, copies-is}
 use Rattle.storages.proofs.Declared.{declared-is}
 
-uses-append : (ps qs : List Stop) → usesAt (ps ++ qs) ≡ usesAt ps ++ usesAt qs
-uses-append [] qs = refl
-uses-append (p ∷ ps) qs = ap (λ (l : List Use). p .0 ∷ l) (uses-append ps qs)
-
 uses-in : (ss : List Use) (out : List ℕ) → usesAt (stopsIn ss out) ≡ ss
 unfolding stopsIn
 uses-in [] out = refl
@@ -39,13 +35,13 @@ unfolding stopsFrom each
 uses-from [] os h = refl
 uses-from (b ∷ fs) [] h = absurd (omega arith)
 uses-from (b ∷ fs) (o ∷ os) h =
-    uses-append (stopsIn (b .uses) o) (stopsFrom fs os) ∙ ap₂ (λ (x y : List Use). x ++ y) (uses-in (b .uses) o) (uses-from fs os (omega arith))
+    map-append (λ (p : Stop). p .0) (stopsIn (b .uses) o) (stopsFrom fs os) ∙ ap₂ (λ (x y : List Use). x ++ y) (uses-in (b .uses) o) (uses-from fs os (omega arith))
 
 uses-each : (f : List ℕ) (l : List Function) → usesAt (each (λ (fn : Function). stopsOf (flows one (program one f) fn)) l) ≡ each (usesOf one (program one f)) l
 unfolding each stopsOf usesOf
 uses-each f [] = refl
 uses-each f (x ∷ l) =
-    uses-append (stopsFrom (flows one (program one f) x) (settledBy (flows one (program one f) x) .sets .outs)) _
+    map-append (λ (p : Stop). p .0) (stopsFrom (flows one (program one f) x) (settledBy (flows one (program one f) x) .sets .outs)) _
     ∙ ap₂ (λ (a b : List Use). a ++ b) (uses-from (flows one (program one f) x) (settledBy (flows one (program one f) x) .sets .outs) (omega (arith, settled-outs (flows one (program one f) x)))) (uses-each f l)
 
 -- The steps of a program's stops are its steps.

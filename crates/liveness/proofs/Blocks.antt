@@ -1,7 +1,7 @@
 -- For code that goes through a block's steps once, from the front: it keeps what the steps read before writing it and what they write. One more step adds
 -- what it reads and no earlier step wrote, and what it writes; live-in is what is read first and what is live-out and not written.
 use mathlib.Core.Path.{_≡_, refl, sym, ap, ap₂, _∙_}
-use mathlib.Core.Bool.{Bool, true, false, not, _&&_, _||_}
+use mathlib.Core.Bool.{false, not, _&&_, _||_, or-false, or-assoc}
 use mathlib.Core.List.{List, [], _∷_, _++_, map}
 use Prim.Native.Nat.{ℕ}
 use Rattle.rows.specs.Row.{orRow, lessRow}
@@ -48,11 +48,7 @@ before-snoc (x ∷ ss) s out = rw (before-snoc ss s out)
 
 only-reads : (s : Use) (u : ℕ) → has u (before (s ∷ []) []) ≡ has u (s .reads)
 unfolding before
-only-reads s u = has-join u (s .reads) (less [] (s .writes)) ∙ (ap (λ x. has u (s .reads) || x) (has-less u [] (s .writes) ∙ ap (λ x. x && not (has u (s .writes))) (has-nil u)) ∙ more (has u (s .reads)))
-  where
-    more : (b : Bool) → (b || false) ≡ b
-    more true = refl
-    more false = refl
+only-reads s u = has-join u (s .reads) (less [] (s .writes)) ∙ (ap (λ x. has u (s .reads) || x) (has-less u [] (s .writes) ∙ ap (λ x. x && not (has u (s .writes))) (has-nil u)) ∙ or-false (has u (s .reads)))
 
 pub read-first-snoc : (ss : List Use) (s : Use) (u : ℕ) → has u (readFirst (ss ++ (s ∷ []))) ≡ (has u (readFirst ss) || (has u (s .reads) && not (has u (writtenBy ss))))
 read-first-snoc ss s u =
@@ -61,19 +57,11 @@ read-first-snoc ss s u =
 
 pub written-snoc : (ss : List Use) (s : Use) (u : ℕ) → has u (writtenBy (ss ++ (s ∷ []))) ≡ (has u (writtenBy ss) || has u (s .writes))
 unfolding each
-written-snoc [] s u = has-append u (s .writes) [] ∙ (ap (λ x. has u (s .writes) || x) (has-nil u) ∙ (turn (has u (s .writes)) ∙ ap (λ x. x || has u (s .writes)) (sym (has-nil u))))
-  where
-    turn : (b : Bool) → (b || false) ≡ (false || b)
-    turn true = refl
-    turn false = refl
+written-snoc [] s u = has-append u (s .writes) [] ∙ (ap (λ x. has u (s .writes) || x) (has-nil u) ∙ (or-false (has u (s .writes)) ∙ ap (λ x. x || has u (s .writes)) (sym (has-nil u))))
 written-snoc (x ∷ ss) s u =
     has-append u (x .writes) (writtenBy (ss ++ (s ∷ [])))
     ∙ (ap (λ y. has u (x .writes) || y) (written-snoc ss s u)
-    ∙ (group (has u (x .writes)) (has u (writtenBy ss)) (has u (s .writes)) ∙ ap (λ y. y || has u (s .writes)) (sym (has-append u (x .writes) (writtenBy ss)))))
-  where
-    group : (a b c : Bool) → (a || (b || c)) ≡ ((a || b) || c)
-    group true b c = refl
-    group false b c = refl
+    ∙ (sym (or-assoc (has u (x .writes)) (has u (writtenBy ss)) (has u (s .writes))) ∙ ap (λ y. y || has u (s .writes)) (sym (has-append u (x .writes) (writtenBy ss)))))
 
 -- The same in rows.
 module _ (ed : Edition) (us : List ℕ) where

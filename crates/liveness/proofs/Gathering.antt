@@ -26,8 +26,9 @@ use Rattle.liveness.specs.Walks.{Kept, Inner, Outer, Same, Asked, usesOf
 use Rattle.units.specs.declared.cursor.Cursor.{Cursor}
 use Rattle.liveness.specs.declared.survey.Walk.{Walk}
 use Rattle.liveness.proofs.SetLaws.{has-nil, has-append, has-less}
-use Rattle.liveness.proofs.Rows.{row-length, row-same, row-none, row-or, row-less}
+use Rattle.liveness.proofs.Rows.{row-length, row-same, row-or, row-less}
 use Rattle.units.proofs.Standing.{stands-on}
+use Rattle.units.proofs.Using.{no-units}
 use Rattle.liveness.proofs.Onward.{from-target, from-operand, over-operands}
 
 -- What steps read first, with one step more -----------------------------------------------------------------------------------------------------
@@ -158,9 +159,6 @@ target-id f at =
 
 -- The walk inside a block ----------------------------------------------------------------------------------------------------------------------
 
-none-read : (us : List ℕ) → replicate 8 0 ≡ unitRow one us []
-none-read us = sym (row-none one us)
-
 pub in-start : (f us : List ℕ) (fn : Function) (targets places counts : List ℕ) (w : Walk) → Stands f (w .at) (w .k) → (from f (w .at) .steps ≡ [] → ⊥)
     → InBlock f us fn (w .at) (w .steps) (w .targets) (replicate 8 0) (replicate 8 0) targets places counts w
 unfolding readFirst written
@@ -171,8 +169,8 @@ in-start f us fn targets places counts w s n =
       stands = s;
       many = omega arith;
       begun = tt;
-      reading = none-read us;
-      writing = none-read us;
+      reading = no-units us;
+      writing = no-units us;
       going = last-any [] _ (from f (w .at) .steps) n;
       blocks = refl;
       functions = refl;

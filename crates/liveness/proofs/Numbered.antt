@@ -2,27 +2,28 @@
 -- where its word is, because no word has two numbers and no number two words; so counts and live sets are the same, by numbers and by words.
 use mathlib.Core.Path.{_≡_, refl, sym, ap, ap₂, _∙_, subst}
 use mathlib.Core.Bool.{Bool, true, false, not, _&&_, _||_, true≢false}
-use mathlib.Core.List.{List, [], _∷_, map, List·Memᴰ, List·Memᴰ·head, List·Memᴰ·tail, List·Memᴰ·not-nil}
-use Prim.Native.Nat.{ℕ, zero, suc, _+_, _≤_, _<_}
+use mathlib.Core.List.{List, [], _∷_, map, List·Memᴰ, List·Memᴰ·head, List·Memᴰ·tail, List·Memᴰ·not-nil, Memᴰ·map}
+use Prim.Native.Nat.{ℕ, suc, _+_, _≤_, _<_}
 use native.Mathlib.Omega.{arith}
-use native.Mathlib.Nat.{not-suc-le-zero}
 use native.Mathlib.Decide.{decLt}
-use borrow.Author.Tests.{lt-ltb, le-ltb, eq-eqb}
-use lib.Dec.{T, eqb, eqb→eq}
+use borrow.Author.Tests.{lt-ltb, le-ltb}
+use lib.Dec.{T}
 use lib.ListN.{length, getD, length-map, List·getD-map}
-use Rattle.records.specs.Pick.{pick, pick-yes, pick-no, has}
+use Rattle.rows.proofs.Tests.{antisym, T-true, T-false}
+use Rattle.records.specs.Pick.{pick-yes, pick-no, has}
 use Rattle.records.specs.Units.{numberIn}
 use Rattle.records.proofs.Range.{Distinct}
 use Rattle.records.proofs.Numbers.{number-low, number-at, at-has}
+use Rattle.records.proofs.Lists.{number-of}
 use Rattle.units.specs.Sets.{less}
 use Rattle.units.specs.Rows.{listed}
 use Rattle.passes.specs.Live as L
-use Rattle.passes.proofs.Laws.{antisym, live-in-iff, live-out-iff}
+use Rattle.passes.proofs.Laws.{live-in-iff, live-out-iff}
 use Rattle.passes.proofs.Renumber as R
 use Rattle.passes.proofs.Squash.{squash, squash-settled}
 use Rattle.liveness.specs.Flow.{Use, Flow, noFlow}
 use Rattle.liveness.specs.Settle.{stepView, view, views, before, flowAt, stateOf, settledBy}
-use Rattle.liveness.proofs.SetLaws.{mem-map, map-mem, mem-at, T-true, T-false, has-mem, mem-has, has-join, has-less}
+use Rattle.liveness.proofs.SetLaws.{mem-map, mem-at, has-mem, mem-has, has-join, has-less}
 use Rattle.liveness.proofs.SettleLaws.{settled, Read, path-read, block-read}
 
 -- The blocks with numbers for words: the number of a word is its place in the list of units.
@@ -45,17 +46,6 @@ pub record Listed (us : List ℕ) (s : Use) : Type 0 where
 
 abbrev pub AllListed : List ℕ → List Flow → Type 0
 AllListed us fs = (b : Flow) → List·Memᴰ b fs → (s : Use) → List·Memᴰ s (b .uses) → Listed us s
-
--- The unit in place n has number n.
-pub number-of : (us : List ℕ) (n : ℕ) → Distinct us → n < length us → numberIn (getD us n 0) us ≡ n
-unfolding numberIn pick
-number-of [] n d l = absurd (not-suc-le-zero l)
-number-of (a ∷ us) zero d l = rw (eq-eqb a a refl)
-number-of (a ∷ us) (suc n) d l = go (eqb (getD us n 0) a) (eqb→eq (getD us n 0) a) (number-of us n (d .1) (omega arith))
-  where
-    go : (b : Bool) → (T b → getD us n 0 ≡ a) → numberIn (getD us n 0) us ≡ n → pick b 0 (suc (numberIn (getD us n 0) us)) ≡ suc n
-    go true e ih = absurd (true≢false (sym (at-has us n (omega arith)) ∙ (ap (λ x. has x us) (e tt) ∙ d .0)))
-    go false e ih = ap suc ih
 
 pub number-inj : (us : List ℕ) (a w : ℕ) → has a us ≡ true → has w us ≡ true → numberIn a us ≡ numberIn w us → a ≡ w
 number-inj us a w p q e = sym (number-at a us p) ∙ (ap (λ n. getD us n 0) e ∙ number-at w us q)
@@ -87,7 +77,7 @@ module _ (us : List ℕ) where
           mem-has w l (subst (λ x. List·Memᴰ x l) (number-inj us (r .0) w (all (r .0) (T-true (has (r .0) l) (mem-has (r .0) l (r .1)))) q (sym (r .2))) (r .1))
 
       from : T (has w l) → T (has (number w) (map number l))
-      from h = mem-has (number w) (map number l) (map-mem number (has-mem w l h))
+      from h = mem-has (number w) (map number l) (Memᴰ·map number (has-mem w l h))
 
   -- a word that is not listed is in no such set, and neither is a number that is not below the number of units.
   pub has-unlisted : (l : List ℕ) → Among l us → (w : ℕ) → has w us ≡ false → has w l ≡ false

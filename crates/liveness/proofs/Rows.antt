@@ -2,32 +2,28 @@
 -- what each of them holds; a unit has one number and a number one unit, so that a row tells a set of the file's units.
 use mathlib.Core.Path.{_≡_, refl, sym, ap, ap₂, _∙_}
 use mathlib.Core.Bool.{Bool, true, false, not, _&&_, _||_, and-or-distrib-left}
-use mathlib.Core.List.{List, [], _∷_, _++_}
+use mathlib.Core.List.{List, _∷_, _++_}
 use Prim.Native.Nat.{ℕ, _*_, _≤_, _<_}
 use native.Mathlib.Omega.{arith}
 use native.Mathlib.Decide.{decLt}
 use borrow.Author.Tests.{lt-ltb, le-ltb, ne-eqb}
 use lib.Dec.{ltb, eqb, eqb→eq}
-use lib.ListN.{length, getD, replicate}
+use lib.ListN.{length, getD}
 use Rattle.rows.specs.Row.{Words, member, memberAt, withAt, orRow, lessRow}
-use Rattle.rows.proofs.Pack.{length-pack, pack-words, member-at-pack, pack-unique, pack-ext, pack-none, pack-with-at, pack-or, pack-less}
-use Rattle.records.specs.Pick.{pick, _and_, has}
+use Rattle.rows.proofs.Tests.{antisym}
+use Rattle.rows.proofs.Pack.{length-pack, pack-words, member-at-pack, pack-unique, pack-ext, pack-with-at, pack-or, pack-less}
+use Rattle.records.specs.Pick.{_and_, has}
 use Rattle.records.specs.Edition.{Edition}
 use Rattle.records.specs.Units.{numberIn}
+use Rattle.records.proofs.Front.{and-is}
 use Rattle.records.proofs.Range.{Distinct}
 use Rattle.records.proofs.Numbers.{number-low, number-at}
+use Rattle.records.proofs.Lists.{number-of}
 use Rattle.units.specs.Sets.{less}
 use Rattle.units.specs.Rows.{listed, unitRow}
-use Rattle.passes.proofs.Laws.{antisym}
 use Rattle.liveness.specs.Sets.{join}
-use Rattle.liveness.proofs.SetLaws.{eqb-yes, has-nil, has-cons, has-append, has-less, has-join}
-use Rattle.liveness.proofs.Numbered.{Among, number-of, has-unlisted}
-
--- The shut `and`, taken apart.
-and-is : (a b : Bool) → (a and b) ≡ (a && b)
-unfolding pick
-and-is true b = refl
-and-is false b = refl
+use Rattle.liveness.proofs.SetLaws.{eqb-yes, has-cons, has-append, has-less, has-join}
+use Rattle.liveness.proofs.Numbered.{Among, has-unlisted}
 
 pub listed-is : (us set : List ℕ) (n : ℕ) → listed us set n ≡ (ltb n (length us) && has (getD us n 0) set)
 listed-is us set n = and-is (ltb n (length us)) (has (getD us n 0) set)
@@ -49,14 +45,6 @@ module _ (ed : Edition) (us : List ℕ) where
   pub row-same : (a b : List ℕ) → ((u : ℕ) → has u a ≡ has u b) → unitRow ed us a ≡ unitRow ed us b
   unfolding unitRow
   row-same a b e = pack-ext (ed .unitWords) (listed us a) (listed us b) (λ n _. ap (λ x. ltb n (length us) and x) (e (getD us n 0)))
-
-  pub row-none : unitRow ed us [] ≡ replicate (ed .unitWords) 0
-  unfolding unitRow
-  row-none = pack-ext (ed .unitWords) (listed us []) (λ (n : ℕ). false) (λ n _. listed-is us [] n ∙ (ap (λ x. ltb n (length us) && x) (has-nil (getD us n 0)) ∙ none (ltb n (length us)))) ∙ pack-none (ed .unitWords)
-    where
-      none : (t : Bool) → (t && false) ≡ false
-      none true = refl
-      none false = refl
 
   -- A row that has a set's members is the set's row.
   pub row-unique : (r a : List ℕ) → length r ≡ ed .unitWords → Words r → ((n : ℕ) → n < 64 * ed .unitWords → member r n ≡ listed us a n) → r ≡ unitRow ed us a

@@ -2,52 +2,20 @@
 -- membership is such a test, so what each operation on sets holds follows from those equations.
 use mathlib.Core.Path.{_≡_, refl, sym, ap, ap₂, _∙_, subst}
 use mathlib.Core.Logic.{_⊎_, inl, inr}
-use mathlib.Core.Bool.{Bool, true, false, not, _&&_, _||_, or-assoc, and-comm, and-false, and-or-distrib-left}
+use mathlib.Core.Bool.{Bool, true, false, not, _&&_, _||_, or-assoc, and-comm, and-false, and-or-distrib-left, or-self-left}
 use mathlib.Core.List.{List, [], _∷_, _++_, map, List·Memᴰ, List·Memᴰ·head, List·Memᴰ·tail, Memᴰ·append-left, Memᴰ·append-right}
 use Prim.Native.Nat.{ℕ, zero, suc, _<_}
 use native.Mathlib.Omega.{arith}
 use native.Mathlib.Nat.{not-suc-le-zero}
 use lib.ListN.{length, getD}
 use lib.Dec.{T, eqb, ltb, eqb→eq, eqb-refl}
+use Rattle.rows.proofs.Tests.{antisym, or-cases, or-l, or-r, and-l, and-r, and-in}
 use Rattle.records.specs.Pick.{pick, _or_, has}
+use Rattle.records.proofs.Front.{or-is}
 use Rattle.units.specs.Sets.{select, any, each, less}
-use Rattle.passes.proofs.Laws.{antisym}
 use Rattle.liveness.specs.Sets.{insert, join, every, within, sameSet}
 
--- Tests, as implications ------------------------------------------------------------------------------------------------------------
-
-pub or-cases : (a b : Bool) → T (a || b) → T a ⊎ T b
-or-cases true b h = inl h
-or-cases false b h = inr h
-
-pub or-l : (a b : Bool) → T a → T (a || b)
-or-l true b h = h
-
-pub or-r : (a b : Bool) → T b → T (a || b)
-or-r true b h = tt
-or-r false b h = h
-
-pub and-l : (a b : Bool) → T (a && b) → T a
-and-l true b h = tt
-
-pub and-r : (a b : Bool) → T (a && b) → T b
-and-r true b h = h
-
-pub and-in : (a b : Bool) → T a → T b → T (a && b)
-and-in true b p q = q
-
-pub T-true : (b : Bool) → T b → b ≡ true
-T-true true h = refl
-
-pub T-false : (b : Bool) → ¬ T b → b ≡ false
-T-false true h = absurd (h tt)
-T-false false h = refl
-
-pub T-yes : {b : Bool} → b ≡ true → T b
-T-yes e = subst T (sym e) tt
-
-pub T-not : {b : Bool} → b ≡ false → ¬ T b
-T-not e h = subst T e h
+-- Tests --------------------------------------------------------------------------------------------------------------------------------
 
 pub eqb-sym : (m n : ℕ) → eqb m n ≡ eqb n m
 eqb-sym m n = antisym (eqb m n) (eqb n m) (λ h. rw (eqb→eq m n h) (eqb-refl n)) (λ h. rw (eqb→eq n m h) (eqb-refl m))
@@ -55,12 +23,7 @@ eqb-sym m n = antisym (eqb m n) (eqb n m) (λ h. rw (eqb→eq m n h) (eqb-refl n
 pub eqb-yes : (m n : ℕ) → m ≡ n → T (eqb m n)
 eqb-yes m n e = rw e (eqb-refl n)
 
--- The shut choices are the usual ones.
-pub or-is : (a b : Bool) → (a or b) ≡ (a || b)
-unfolding pick
-or-is true b = refl
-or-is false b = refl
-
+-- The shut choice between no and yes is the usual one.
 pub not-is : (b : Bool) → pick b false true ≡ not b
 unfolding pick
 not-is true = refl
@@ -135,10 +98,6 @@ module _ {A B : Type 0} where
   mem-map f (a ∷ l) (List·Memᴰ·head e) = (a, List·Memᴰ·head refl, e)
   mem-map f (a ∷ l) (List·Memᴰ·tail m) = let r = mem-map f l m in (r .0, List·Memᴰ·tail (r .1), r .2)
 
-  pub map-mem : (f : A → B) {a : A} {l : List A} → List·Memᴰ a l → List·Memᴰ (f a) (map f l)
-  map-mem f (List·Memᴰ·head e) = List·Memᴰ·head (ap f e)
-  map-mem f (List·Memᴰ·tail m) = List·Memᴰ·tail (map-mem f m)
-
   pub mem-each : (f : A → List B) {a : A} {l : List A} {b : B} → List·Memᴰ a l → List·Memᴰ b (f a) → List·Memᴰ b (each f l)
   unfolding each
   mem-each f {b = b} (List·Memᴰ·head {x = x} {xs = l} e) m = Memᴰ·append-left (each f l) (subst (λ y. List·Memᴰ b (f y)) e m)
@@ -193,10 +152,6 @@ swap-or true true c = refl
 swap-or true false c = refl
 swap-or false b c = refl
 
-absorb-or : (b r : Bool) → (b || r) ≡ (b || (b || r))
-absorb-or true r = refl
-absorb-or false r = refl
-
 pub has-insert : (v u : ℕ) (l : List ℕ) → has v (insert u l) ≡ (eqb v u || has v l)
 unfolding insert pick
 has-insert v u [] = has-cons v u []
@@ -205,7 +160,7 @@ has-insert v u (a ∷ l) = go (ltb u a) (eqb u a) (eqb→eq u a) (has-insert v u
     go : (b c : Bool) → (T c → u ≡ a) → has v (insert u l) ≡ (eqb v u || has v l)
         → has v (pick b (u ∷ a ∷ l) (a ∷ pick c l (insert u l))) ≡ (eqb v u || (eqb v a || has v l))
     go true c e ih = has-cons v u (a ∷ l) ∙ ap (λ x. eqb v u || x) (has-cons v a l)
-    go false true e ih = has-cons v a l ∙ (ap (λ x. eqb v x || has v l) (sym (e tt)) ∙ (absorb-or (eqb v u) (has v l) ∙ ap (λ x. eqb v u || (eqb v x || has v l)) (e tt)))
+    go false true e ih = has-cons v a l ∙ (ap (λ x. eqb v x || has v l) (sym (e tt)) ∙ (sym (or-self-left (eqb v u) (has v l)) ∙ ap (λ x. eqb v u || (eqb v x || has v l)) (e tt)))
     go false false e ih = has-cons v a (insert u l) ∙ (ap (λ x. eqb v a || x) ih ∙ swap-or (eqb v a) (eqb v u) (has v l))
 
 pub has-join : (u : ℕ) (l m : List ℕ) → has u (join l m) ≡ (has u l || has u m)

@@ -11,6 +11,7 @@ use native.Mathlib.Decide.{ℕ-discrete, decLt}
 use lib.Dec.{T, ltb, ltb→lt, lt→ltb}
 use lib.ListN.{length, getD, set, replicate, length-set, length-replicate, length-map, List·getD-map, List·getD-eq-default}
 use lib.Seq.{getD-set-same, getD-set-other}
+use Rattle.rows.proofs.Tests.{and-l, and-r, and-in, T-true, T-false, T-yes}
 use Rattle.records.specs.Pick.{pick, has}
 use Rattle.records.specs.Edition.{Edition}
 use Rattle.records.specs.Program.{Function, Program}
@@ -20,7 +21,7 @@ use Rattle.passes.proofs.Laws.{put-cases, state-ext, settles, settles-within, s
 use Rattle.liveness.specs.Sets.{sameSet}
 use Rattle.liveness.specs.Flow.{Use, Flow, noFlow, flowOf, flows}
 use Rattle.liveness.specs.Settle.{stepView, view, views, Sets, stateOf, unionAt, before, flowAt, visitAt, sweepAt, passAt, sameRows, sameSets, Outcome, settleFrom, nothing, settledBy, liveness}
-use Rattle.liveness.proofs.SetLaws.{mem-map, and-l, and-r, and-in, T-true, T-false, T-yes, has-nil, has-less, has-join, sameSet-out, sameSet-in}
+use Rattle.liveness.proofs.SetLaws.{mem-map, has-nil, has-less, has-join, sameSet-out, sameSet-in}
 
 pub block-view : (fs : List Flow) (k : ℕ) → L.block (views fs) k ≡ view (flowAt fs k)
 block-view fs k = List·getD-map view fs k noFlow

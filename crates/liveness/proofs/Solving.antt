@@ -1,7 +1,7 @@
 -- From the rows that the passes settle to the live sets. The survey's rows are the theory's two rows of each block, by unit numbers, so what is settled is
 -- settled for the function's blocks; then each row of the buffer is the row of that block's set, and past the last block all rows are empty.
 use mathlib.Core.Path.{_≡_, refl, sym, ap, ap₂, _∙_, fun-ext}
-use mathlib.Core.Bool.{Bool, true, false, not, _&&_, _||_}
+use mathlib.Core.Bool.{Bool, true, false, not, _&&_, _||_, and-false, and-or-distrib-left}
 use mathlib.Core.List.{List, [], _∷_, _++_, map, List·Memᴰ, List·Memᴰ·head, List·Memᴰ·tail}
 use Prim.Native.Nat.{ℕ, zero, suc, _+_, _*_, _≤_, _<_}
 use native.Mathlib.Omega.{arith}
@@ -20,6 +20,7 @@ use Rattle.records.specs.Units.{numberIn}
 use Rattle.records.specs.Program.{Function, program}
 use Rattle.records.proofs.Range.{Distinct}
 use Rattle.records.proofs.Numbers.{at-has}
+use Rattle.records.proofs.Lists.{number-of}
 use Rattle.units.specs.Sets.{less}
 use Rattle.units.specs.Rows.{listed, unitRow}
 use Rattle.units.specs.Along.{Ready}
@@ -33,10 +34,11 @@ use Rattle.liveness.specs.Survey.{readFirst, written, Surveyed}
 use Rattle.liveness.specs.Lives.{rowsFrom, liveWords}
 use Rattle.liveness.proofs.SetLaws.{has-nil, has-append, has-less, mem-at}
 use Rattle.liveness.proofs.SettleLaws.{flows-length, settled-ins, settled-outs}
-use Rattle.liveness.proofs.Numbered.{numberUse, numberFlow, numbered, Among, Listed, AllListed, number-of, has-number, has-past, rows-count, rows-listed}
+use Rattle.liveness.proofs.Numbered.{numberUse, numberFlow, numbered, Among, Listed, AllListed, has-number, has-past, rows-count, rows-listed}
 use Rattle.liveness.proofs.UseLaws.{accepted-listed}
 use Rattle.units.proofs.Standing.{units-once, units-most}
-use Rattle.liveness.proofs.Rows.{listed-is, row-none, row-unique}
+use Rattle.units.proofs.Using.{no-units}
+use Rattle.liveness.proofs.Rows.{listed-is, row-unique}
 
 -- Sets by numbers ------------------------------------------------------------------------------------------------------------------------------
 
@@ -51,14 +53,6 @@ gen-joins true false true false = refl
 gen-joins true false false true = refl
 gen-joins true false false false = refl
 
-kill-joins : (t w x : Bool) → ((t && w) || (t && x)) ≡ (t && (w || x))
-kill-joins true w x = refl
-kill-joins false w x = refl
-
-and-none : (t : Bool) → (t && false) ≡ false
-and-none true = refl
-and-none false = refl
-
 module _ (us : List ℕ) (once : Distinct us) where
   listed-numbers : (l : List ℕ) → Among l us → (n : ℕ) → has n (map (λ a. numberIn a us) l) ≡ (ltb n (length us) && has (getD us n 0) l)
   listed-numbers l all n = go (decLt n (length us))
@@ -71,7 +65,7 @@ module _ (us : List ℕ) (once : Distinct us) where
 
   gen-numbers : (ss : List Use) → ((s : Use) → List·Memᴰ s ss → Listed us s) → (n : ℕ) → M.gen (map stepView (map (numberUse us) ss)) n ≡ (ltb n (length us) && has (getD us n 0) (readFirst ss))
   unfolding M.gen L.backwards readFirst
-  gen-numbers [] all n = sym (ap (λ (x : Bool). ltb n (length us) && x) (has-nil (getD us n 0)) ∙ and-none (ltb n (length us)))
+  gen-numbers [] all n = sym (ap (λ (x : Bool). ltb n (length us) && x) (has-nil (getD us n 0)) ∙ and-false (ltb n (length us)))
   gen-numbers (s ∷ ss) all n =
       let h = all s (List·Memᴰ·head refl) in
       let t = ltb n (length us) in
@@ -83,13 +77,13 @@ module _ (us : List ℕ) (once : Distinct us) where
 
   kill-numbers : (ss : List Use) → ((s : Use) → List·Memᴰ s ss → Listed us s) → (n : ℕ) → M.kill (map stepView (map (numberUse us) ss)) n ≡ (ltb n (length us) && has (getD us n 0) (written ss))
   unfolding M.kill written
-  kill-numbers [] all n = sym (ap (λ (x : Bool). ltb n (length us) && x) (has-nil (getD us n 0)) ∙ and-none (ltb n (length us)))
+  kill-numbers [] all n = sym (ap (λ (x : Bool). ltb n (length us) && x) (has-nil (getD us n 0)) ∙ and-false (ltb n (length us)))
   kill-numbers (s ∷ ss) all n =
       let h = all s (List·Memᴰ·head refl) in
       let t = ltb n (length us) in
       let u = getD us n 0 in
       ap₂ (λ (x y : Bool). x || y) (listed-numbers (s .writes) (h .writes) n) (kill-numbers ss (λ x m. all x (List·Memᴰ·tail m)) n)
-      ∙ (kill-joins t (has u (s .writes)) (has u (written ss)) ∙ ap (λ (x : Bool). t && x) (sym (has-append u (s .writes) (written ss))))
+      ∙ (sym (and-or-distrib-left t (has u (s .writes)) (has u (written ss))) ∙ ap (λ (x : Bool). t && x) (sym (has-append u (s .writes) (written ss))))
 
   -- a row of the buffer that is a set's row, as a set of numbers
   units-at : (fits : length us ≤ 512) (ws l : List ℕ) (base : ℕ) → row ws base 8 ≡ unitRow one us l → (n : ℕ) → P.unitsAt ws base n ≡ (ltb n (length us) && has (getD us n 0) l)
@@ -179,7 +173,7 @@ module _ (f us : List ℕ) (fn : Function) (gens kills targets starts places cou
     blank-row base l h e z =
         let n : length (row live base 8) ≡ 8 = length-row live base 8 (omega (arith, v .held .len)) in
         ext-getD 0 (row live base 8) (replicate 8 0) n (λ i q. let k : i < 8 = omega arith in getD-row live base 8 i k ∙ (z i k ∙ sym (getD-replicate 8 i 0 0 k)))
-        ∙ (sym (row-none one us) ∙ ap (unitRow one us) (sym e))
+        ∙ (no-units us ∙ ap (unitRow one us) (sym e))
 
     in-rows : (k : ℕ) → k < 128 → row live (k * 8) 8 ≡ unitRow one us (getD (sets .ins) k [])
     unfolding P.stateOf

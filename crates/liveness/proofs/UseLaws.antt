@@ -9,6 +9,7 @@ use native.Mathlib.Omega.{arith}
 use native.Mathlib.Decide.{decLt}
 use lib.Dec.{T, eqb, eqb→eq}
 use lib.ListN.{length, getD, List·getD-eq-default}
+use Rattle.rows.proofs.Tests.{T-true, T-yes, or-cases}
 use Rattle.records.specs.Pick.{pick, pick-yes, _and_, has, All}
 use Rattle.records.specs.Edition.{Edition}
 use Rattle.records.specs.Record.{Abi, Operand, wordOf}
@@ -22,7 +23,7 @@ use Rattle.units.specs.Uses.{isParameter, isResult, isOutcome, readsField, writ
 use Rattle.passes.proofs.Squash.{getD-map}
 use Rattle.liveness.specs.Flow.{Use, Flow, noFlow, useOf, lastTargets, flowOf, flows}
 use Rattle.liveness.specs.Settle.{flowAt, settledBy}
-use Rattle.liveness.proofs.SetLaws.{T-true, T-yes, or-cases, has-nil, has-cons, mem-map, mem-at}
+use Rattle.liveness.proofs.SetLaws.{has-nil, has-cons, mem-map, mem-at}
 use Rattle.liveness.proofs.SettleLaws.{settled-ins, settled-outs, live-entry, live-end, Read, path-read, block-read}
 use Rattle.liveness.proofs.Numbered.{Among, Listed, AllListed}
 

@@ -139,9 +139,6 @@ neither a b e = pick-no a b false e
 pub not-second : (a b : Bool) → a ≡ true → b ≡ false → (a and b) ≡ false
 not-second a b e f = pick-yes a b false e ∙ f
 
-pub both : (a b : Bool) → a ≡ true → b ≡ true → (a and b) ≡ true
-both a b e f = pick-yes a b false e ∙ f
-
 module _ (t : Bool) (ps : List (ℕ × ℕ)) (g : List ℕ) where
   pub linked-no : t ≡ false → g ≡ linked (pick t ps []) g
   unfolding linked

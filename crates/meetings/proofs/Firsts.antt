@@ -5,7 +5,7 @@ use mathlib.Core.Bool.{true, false, false≢true}
 use mathlib.Core.Logic.{⊎-elim}
 use mathlib.Core.List.{List, [], _∷_}
 use Prim.Native.Nat.{ℕ, zero, suc, _+_, _-_, _*_, _/_, _%_, _^_, _≤_, _<_}
-use native.Mathlib.Nat.{not-suc-le-zero, lt-of-lt-of-le, pow-suc, mod-lt, zero-lt-suc}
+use native.Mathlib.Nat.{not-suc-le-zero, lt-of-lt-of-le, mod-lt, zero-lt-suc}
 use native.Mathlib.Omega.{arith}
 use lib.Arith.{lt-one}
 use lib.Pow.{shr-lt, shr-shr, pow-mono}
@@ -13,7 +13,7 @@ use lib.Count.{trailingZeros, under}
 use lib.Dec.{eqb}
 use lib.ListN.{length, getD}
 use Rattle.rows.specs.Row.{Words, digit, bit, member}
-use Rattle.rows.proofs.Digit.{digit-low, digit-suc, bit-zero}
+use Rattle.rows.proofs.Digit.{digit-low, digit-suc, bit-zero, half-lt}
 use Rattle.rows.proofs.Rows.{lt-or-ge}
 use Rattle.records.specs.Pick.{pick-yes, pick-no}
 use Rattle.meetings.specs.Members.{Lowest, Filled, First, membersFrom, ahead}
@@ -27,9 +27,6 @@ bit-low w = ap (λ (x : ℕ). eqb x 1) (digit-low w)
 bit-suc : (w i : ℕ) → bit w (suc i) ≡ bit (w / 2) i
 unfolding bit
 bit-suc w i = ap (λ (x : ℕ). eqb x 1) (digit-suc w i)
-
-half-lt : {a : ℕ} (k : ℕ) → a < 2 ^ suc k → a / 2 < 2 ^ k
-half-lt {a} k h = let p : 2 ^ suc k ≡ 2 ^ k * 2 = pow-suc 2 k in omega arith
 
 abbrev LowBit : ℕ → ℕ → ℕ → Type 0
 LowBit k n t = (t < k) × (bit n t ≡ true) × ((i : ℕ) → i < t → bit n i ≡ false)

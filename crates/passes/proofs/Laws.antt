@@ -11,39 +11,13 @@ use native.Mathlib.Nat.{not-suc-le-zero}
 use native.Mathlib.Decide.{ℕ-discrete, decLt}
 use lib.Dec.{T, ltb, eqb, ltb→lt, lt→ltb, eqb→eq, eqb-refl}
 use lib.ListN.{length, getD}
-use Rattle.passes.specs.Live.{Row, Step, Block, State, empty, block, pick, put, union, backwards, visit, sweep, pass, after, Settled, Reads, reads-here, goes-on, jumps, ReadsFrom, ReadsAfter}
-
--- Tests, as implications ------------------------------------------------------------------------------------------------------------
-
-or-cases : (a b : Bool) → T (a || b) → T a ⊎ T b
-or-cases true b h = inl h
-or-cases false b h = inr h
-
-or-l : (a b : Bool) → T a → T (a || b)
-or-l true b h = h
-
-or-r : (a b : Bool) → T b → T (a || b)
-or-r true b h = tt
-or-r false b h = h
-
-and-l : (a b : Bool) → T (a && b) → T a
-and-l true b h = tt
-
-and-r : (a b : Bool) → T (a && b) → T b
-and-r true b h = h
-
-and-in : (a b : Bool) → T a → T b → T (a && b)
-and-in true b p q = q
-
-pub antisym : (a b : Bool) → (T a → T b) → (T b → T a) → a ≡ b
-antisym true true p q = refl
-antisym true false p q = absurd (p tt)
-antisym false true p q = absurd (q tt)
-antisym false false p q = refl
+use Rattle.rows.proofs.Tests.{or-cases, or-l, or-r, and-l, and-r, and-in, antisym}
+use Rattle.records.specs.Pick.{pick}
+use Rattle.passes.specs.Live.{Row, Step, Block, State, empty, block, put, union, backwards, visit, sweep, pass, after, Settled, Reads, reads-here, goes-on, jumps, ReadsFrom, ReadsAfter}
 
 -- What stands at j after `put`: the row that was put, or what stood there.
 pub put-cases : (P : Row → Type 0) (k : ℕ) (r : Row) (x : ℕ → Row) (j : ℕ) → (j ≡ k → P r) → (¬ (j ≡ k) → P (x j)) → P (put k r x j)
-unfolding put
+unfolding put pick
 put-cases P k r x j p q = go (eqb j k) refl
   where
     go : (b : Bool) → eqb j k ≡ b → P (pick b r (x j))
@@ -90,7 +64,7 @@ module _ (u : ℕ) where
       go (inr p) ih = or-r (a′ && w) (s .reads u) p
 
   put-mono : (k : ℕ) (r r′ : Row) (x y : ℕ → Row) → (T (r u) → T (r′ u)) → (j : ℕ) → (¬ (j ≡ k) → T (x j u) → T (y j u)) → T (put k r x j u) → T (put k r′ y j u)
-  unfolding put
+  unfolding put pick
   put-mono k r r′ x y b j c = go (eqb j k) refl
     where
       go : (e : Bool) → eqb j k ≡ e → T (pick e r (x j) u) → T (pick e r′ (y j) u)

@@ -9,8 +9,10 @@ use native.Mathlib.Nat.{not-suc-le-zero}
 use native.Mathlib.Decide.{ℕ-discrete, decLt, map-dec}
 use lib.Dec.{T, ltb, eqb}
 use lib.ListN.{length, getD}
-use Rattle.passes.specs.Live.{Row, Step, Block, State, empty, block, pick, put, union, backwards, visit, sweep, pass, after, Settled, Reads, reads-here, goes-on, jumps, ReadsFrom, ReadsAfter}
-use Rattle.passes.proofs.Laws.{after-sound, antisym, state-ext, settles, settles-within, put-cases, after-ins, after-outs, visit-same}
+use Rattle.rows.proofs.Tests.{antisym}
+use Rattle.records.specs.Pick.{pick}
+use Rattle.passes.specs.Live.{Row, Step, Block, State, empty, block, put, union, backwards, visit, sweep, pass, after, Settled, Reads, reads-here, goes-on, jumps, ReadsFrom, ReadsAfter}
+use Rattle.passes.proofs.Laws.{after-sound, state-ext, settles, settles-within, put-cases, after-ins, after-outs, visit-same}
 
 -- (c) A block's steps as ONE step: what it reads before writing, and what it writes -------------------------------------------------------
 
@@ -132,7 +134,7 @@ loop : List Block
 loop = record { steps = readsZero ∷ []; targets = 0 ∷ [] } ∷ []
 
 p3 : Settled loop 3 (after loop 2)
-unfolding loop after pass sweep visit put backwards union readsZero
+unfolding loop after pass sweep visit put pick backwards union readsZero
 p3 = record { changed = 2; counts = refl; state = refl; first = moved; last = settles loop }
   where
     moved : (k : ℕ) → k < 2 → ¬ (after loop (suc k) ≡ after loop k)
@@ -145,7 +147,7 @@ stray : List Block
 stray = record { steps = readsZero ∷ []; targets = 7 ∷ [] } ∷ []
 
 p9 : Settled stray 2 (after stray 1)
-unfolding stray after pass sweep visit put backwards union readsZero
+unfolding stray after pass sweep visit put pick backwards union readsZero
 p9 = record { changed = 1; counts = refl; state = refl; first = moved; last = visit-same stray 0 (after stray 1) refl refl }
   where
     moved : (k : ℕ) → k < 1 → ¬ (after stray (suc k) ≡ after stray k)

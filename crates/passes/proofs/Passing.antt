@@ -1,7 +1,7 @@
 -- The passes over rows of words are the passes of Live. A visit writes two rows, whose members are what Live's visit puts into its two sets and which
 -- meet no other row, so a visit in words is a visit in sets; two rows hold the same words just where they are the same sets, so the flag tells the truth.
 use mathlib.Core.Path.{_≡_, refl, sym, ap, _∙_, subst, fun-ext}
-use mathlib.Core.Bool.{Bool, true, false, not, _&&_, _||_, or-false, or-assoc, true≢false, false≢true}
+use mathlib.Core.Bool.{Bool, true, false, not, _&&_, _||_, or-false, or-assoc, and-false, true≢false, false≢true}
 use mathlib.Core.Logic.{_⊎_, inl, inr, ⊎-elim}
 use mathlib.Core.List.{List, [], _∷_}
 use Prim.Native.Nat.{ℕ, zero, suc, _+_, _-_, _*_, _/_, _%_, _≤_, _<_}
@@ -15,10 +15,12 @@ use lib.ListN.{length, getD, replicate, length-replicate}
 use lib.Seq.{drop-cons, ext-getD}
 use borrow.Author.Tests.{lt-ltb, le-ltb, ltb-true, ltb-false, not-true, not-false}
 use Rattle.rows.specs.Row.{Apart, Words, bit, less, member, memberAt, row, put, orRow, lessRow, sameRow}
+use Rattle.rows.proofs.Tests.{either}
 use Rattle.rows.proofs.Digit.{bit-zero}
 use Rattle.rows.proofs.Rows.{lt-or-ge, length-row, length-row-le, row-whole, length-zip, length-put, getD-put-out, row-put-same, row-put-other, put-whole, same-refl, same-true, strides-apart, row-word}
 use Rattle.rows.proofs.Members.{member-row, member-past, member-or, member-less, member-none, getD-none, words-none, words-row, words-or, words-less, words-put, rows-ext}
-use Rattle.passes.specs.Live.{Row, Block, State, noBlock, block, pick, empty, union, backwards, visit, sweep, pass, after, Settled}
+use Rattle.records.specs.Pick.{pick}
+use Rattle.passes.specs.Live.{Row, Block, State, noBlock, block, empty, union, backwards, visit, sweep, pass, after, Settled}
 use Rattle.passes.specs.Passes.{width, outBase, unitsAt, part, targetsOf, blockOf, listed, blocksOf, stateOf, blank, Given, Held, Solved, Passed, joined, joinedAll, outRow, inRow, visited, differs}
 use Rattle.passes.proofs.Laws.{put-cases, put-other, state-ext, changes-early, visit-shows, visit-same, settled-unique}
 
@@ -29,7 +31,7 @@ module _ (live : List ℕ) (count : ℕ) (len : length live ≡ 2048) (few : cou
   target-len t h = length-row live (t * width) width (omega arith)
 
   joined-len : (t : ℕ) (out : List ℕ) → length out ≡ width → length (joined live count t out) ≡ width
-  unfolding joined
+  unfolding joined pick
   joined-len t out lo = go (ltb t count) refl
     where
       go : (b : Bool) → ltb t count ≡ b → length (pick b (orRow out (row live (t * width) width)) out) ≡ width
@@ -42,7 +44,7 @@ module _ (live : List ℕ) (count : ℕ) (len : length live ≡ 2048) (few : cou
   all-len (t ∷ ts) out lo = all-len ts (joined live count t out) (joined-len t out lo)
 
   joined-words : (t : ℕ) (out : List ℕ) → length out ≡ width → Words live → Words out → Words (joined live count t out)
-  unfolding joined
+  unfolding joined pick
   joined-words t out lo wl wo = go (ltb t count) refl
     where
       go : (b : Bool) → ltb t count ≡ b → Words (pick b (orRow out (row live (t * width) width)) out)
@@ -57,12 +59,12 @@ module _ (live : List ℕ) (count : ℕ) (len : length live ≡ 2048) (few : cou
   -- What a call of union_from leaves where there is such a block, and the row as it is where there is none.
   pub joined-there : (t : ℕ) (out : List ℕ) → length out ≡ width → t < count → (out′ : List ℕ) → out′ ≡ put out 0 (orRow (row out 0 width) (row live (t * width) width))
       → out′ ≡ joined live count t out
-  unfolding joined
+  unfolding joined pick
   joined-there t out lo h out′ e =
       e ∙ rw (lt-ltb t count h, row-whole out width (omega arith)) (put-whole out _ (sym (length-zip bitOr out _ (lo ∙ sym (target-len t h)))))
 
   pub joined-missing : (t : ℕ) (out : List ℕ) → count ≤ t → out ≡ joined live count t out
-  unfolding joined
+  unfolding joined pick
   joined-missing t out h = rw (le-ltb t count h)
 
 -- One entry of a part of a list, and the rest.
@@ -159,7 +161,7 @@ units-same x y a b fx fy wx wy h =
 
 module _ (live : List ℕ) (count : ℕ) (len : length live ≡ 2048) (few : count ≤ 128) (u : ℕ) where
   joined-member : (t : ℕ) (out : List ℕ) → length out ≡ width → member (joined live count t out) u ≡ (member out u || (ltb t count && stateOf live count .ins t u))
-  unfolding joined stateOf
+  unfolding joined stateOf pick
   joined-member t out lo = go (ltb t count) refl
     where
       go : (b : Bool) → ltb t count ≡ b → member (pick b (orRow out (row live (t * width) width)) out) u ≡ (member out u || (b && (b && unitsAt live (t * width) u)))
@@ -391,10 +393,6 @@ pub neither : (a b : Bool) → (a || b) ≡ false → (a ≡ false) × (b ≡ fa
 neither true b e = absurd (true≢false e)
 neither false b e = (refl, e)
 
-either : (a b : Bool) → (a || b) ≡ true → (a ≡ true) ⊎ (b ≡ true)
-either true b e = inl refl
-either false b e = inr e
-
 pub rows-same : (a b : List ℕ) → not (sameRow a b) ≡ false → a ≡ b
 rows-same a b e = same-true a b (not-false (sameRow a b) e)
 
@@ -540,11 +538,7 @@ blank-held count = record {
 pub blank-empty : (count : ℕ) → stateOf (blank 2048) count ≡ empty
 unfolding stateOf
 blank-empty count =
-    state-ext _ _ (λ k u. rw (blank-units 2048 (k * width) u) (none (ltb k count))) (λ k u. rw (blank-units 2048 (outBase + k * width) u) (none (ltb k count)))
-  where
-    none : (t : Bool) → (t && false) ≡ false
-    none true = refl
-    none false = refl
+    state-ext _ _ (λ k u. rw (blank-units 2048 (k * width) u) (and-false (ltb k count))) (λ k u. rw (blank-units 2048 (outBase + k * width) u) (and-false (ltb k count)))
 
 module _ (gens kills targets starts : List ℕ) (count : ℕ) where
   abbrev of : List Block

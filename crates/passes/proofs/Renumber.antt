@@ -6,7 +6,8 @@ use mathlib.Core.List.{List, [], _∷_, map}
 use Prim.Native.Nat.{ℕ, zero, suc, _+_, _≤_, _<_}
 use lib.Dec.{T, ltb, eqb}
 use lib.ListN.{length, getD, length-map, List·getD-map}
-use Rattle.passes.specs.Live.{Row, Step, Block, State, empty, noBlock, block, pick, put, union, backwards, visit, sweep, pass, after, Settled}
+use Rattle.records.specs.Pick.{pick}
+use Rattle.passes.specs.Live.{Row, Step, Block, State, empty, noBlock, block, put, union, backwards, visit, sweep, pass, after, Settled}
 use Rattle.passes.proofs.Laws.{state-ext, settled-unique}
 
 -- The function as unit u sees it: of each step, whether it reads u and whether it writes u.
@@ -31,7 +32,7 @@ module _ (u w : ℕ) where
   backwards-only (s ∷ ss) o o′ e = ap (λ a. (a && not (s .writes u)) || s .reads u) (backwards-only ss o o′ e)
 
   put-only : (k : ℕ) (r r′ : Row) (x y : ℕ → Row) → r w ≡ r′ u → ((j : ℕ) → x j w ≡ y j u) → (j : ℕ) → put k r x j w ≡ put k r′ y j u
-  unfolding put
+  unfolding put pick
   put-only k r r′ x y e h j = go (eqb j k)
     where
       go : (b : Bool) → pick b r (x j) w ≡ pick b r′ (y j) u

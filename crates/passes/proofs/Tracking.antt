@@ -13,7 +13,7 @@ use lib.Seq.{getD-set-same, getD-set-other}
 use borrow.Author.Tests.{lt-ltb, le-ltb, ltb-true, not-true}
 use Rattle.rows.specs.Row.{row, put, orRow}
 use Rattle.rows.proofs.Rows.{lt-or-ge, put-row, same-refl}
-use Rattle.passes.specs.Live.{pick}
+use Rattle.records.specs.Pick.{pick}
 use Rattle.passes.specs.Passes.{width, outBase, part, targetsOf, blank, Given, Overtaken, Tracked, joined, joinedAll, outRow, inRow, visited, differs, leads}
 use Rattle.passes.proofs.Passing.{part-step, part-end, visited-in, visited-out, visited-len, visited-other, neither, rows-same}
 
@@ -52,7 +52,7 @@ module _ (moved : List Bool) (count : ℕ) where
 
 module _ (live live′ : List ℕ) (count k : ℕ) (same : (t : ℕ) → ¬ (t ≡ k) → t < count → row live′ (t * width) width ≡ row live (t * width) width) where
   joined-kept : (t : ℕ) → ¬ (t ≡ k) → (out : List ℕ) → joined live′ count t out ≡ joined live count t out
-  unfolding joined
+  unfolding joined pick
   joined-kept t n out = go (ltb t count) refl
     where
       go : (b : Bool) → ltb t count ≡ b → pick b (orRow out (row live′ (t * width) width)) out ≡ pick b (orRow out (row live (t * width) width)) out

@@ -8,7 +8,8 @@ use Prim.Native.Nat.{ℕ, zero, suc, _+_, _-_, _*_, _≤_, _<_}
 use lib.Dec.{ltb}
 use lib.ListN.{length, getD, take, drop, replicate}
 use Rattle.rows.specs.Row.{Words, memberAt, row, put, orRow, lessRow, sameRow}
-use Rattle.passes.specs.Live.{Row, Block, State, pick, pass, Settled}
+use Rattle.records.specs.Pick.{pick}
+use Rattle.passes.specs.Live.{Row, Block, State, pass, Settled}
 
 -- The words of a row, and the first word of the live-out rows: block k has its live-in row at k * width and its live-out row at outBase + k * width.
 abbrev pub width : ℕ

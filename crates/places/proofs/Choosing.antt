@@ -9,6 +9,7 @@ use native.Mathlib.Omega.{arith}
 use lib.Dec.{T, eqb, ltb}
 use lib.ListN.{length, getD}
 use borrow.Author.Tests.{le-ltb}
+use Rattle.rows.proofs.Tests.{T-yes, T-no}
 use Rattle.records.specs.Pick.{pick, pick-no, _and_, _or_}
 use Rattle.records.specs.declared.Refusal.{Refusal}
 use Rattle.storages.specs.declared.Placement.{Placement}
@@ -33,7 +34,7 @@ use Rattle.places.specs.declared.choose.Chosen.the-variants.{Spot, Refus
 use Rattle.places.specs.Memory.{Maps, mapOf, clearRoom}
 use Rattle.places.specs.Place.{Given, chooseFixed, fitted, nameBit, nameBytes, workBit, appBit, chooseBit, workBytes, appBytes, chooseBytes, chooseFree, chooseBy, choose}
 use Rattle.places.specs.Legal.{rightForm, LegalBy, Legal, Inside, Small, FixedSmall}
-use Rattle.places.proofs.Tests.{T-yes, T-no, and-l, and-r, and-in, or-cases, or-r}
+use Rattle.places.proofs.Tests.{and-l, and-r, and-in, or-cases, or-r}
 use Rattle.places.proofs.Rooms.{clear-inside}
 
 -- What holds of a placement that is chosen, or of a refusal; the other case promises nothing.

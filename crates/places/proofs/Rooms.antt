@@ -2,7 +2,7 @@
 -- that the room lies in, and the other map stays.
 use mathlib.Core.Path.{_≡_, refl, sym, ap, _∙_, subst}
 use mathlib.Core.Logic.{_⊎_, inl, inr}
-use mathlib.Core.Bool.{Bool, true, false, _&&_}
+use mathlib.Core.Bool.{Bool, false}
 use mathlib.Core.List.{List}
 use Prim.Native.Nat.{ℕ, _+_, _-_, _≤_, _<_}
 use native.Mathlib.Omega.{arith}
@@ -10,6 +10,7 @@ use lib.Dec.{T, eqb, ltb, leb, eqb→eq, ltb→lt, lt→ltb, leb→le, le→leb}
 use lib.ListN.{length, getD, replicate, length-append, length-replicate, List·getD-append, getD-replicate}
 use borrow.Author.Tests.{eq-eqb, lt-ltb}
 use Rattle.rows.specs.Row.{bit}
+use Rattle.rows.proofs.Tests.{T-yes, T-no, and-l, and-r, and-in}
 use Rattle.rows.proofs.Digit.{bit-zero}
 use Rattle.storages.specs.declared.Space.{Space}
 use Rattle.storages.specs.declared.Space.the-variants.{App, Work}
@@ -20,7 +21,6 @@ use Rattle.maps.specs.Maps.{fill, setBit}
 use Rattle.maps.proofs.Laws.{clear-bytes-out, clear-bit-out, fill-length, fill-keep, fill-has, fill-only, bit-full, setBit-length, setBit-keep, setBit-has, setBit-only}
 use Rattle.places.specs.Memory.{Maps, mapOf, putMap, fresh, clearRoom, reserve}
 use Rattle.places.specs.Legal.{sizeOf, Inside, Small}
-use Rattle.places.proofs.Tests.{T-yes, T-no}
 
 -- Bit k of byte i of a space is taken.
 unfoldable pub held : Maps → Space → ℕ → ℕ → Bool
@@ -48,36 +48,27 @@ map-length Work m a w p q = q
 
 -- ---- The bits of a room
 
-both-l : (a b : Bool) → T (a && b) → T a
-both-l true b t = tt
-
-both-r : (a b : Bool) → T (a && b) → T b
-both-r true b t = t
-
-both : (a b : Bool) → T a → T b → T (a && b)
-both true b p q = q
-
 pub in-nowhere : (sp : Space) (i k : ℕ) → T (within Nowhere sp i k) → ⊥
 unfolding within
 in-nowhere sp i k t = t
 
 pub in-bytes : (q sp : Space) (o n i k : ℕ) → T (within (Bytes q o n) sp i k) → (q ≡ sp) × (o ≤ i) × (i < o + n) × (k < 8)
 unfolding within
-in-bytes q sp o n i k t = let u = both-r (same q sp) _ t in let v = both-r (leb o i) _ u in
-    (same-eq q sp (both-l (same q sp) _ t), leb→le o i (both-l (leb o i) _ u), ltb→lt i (o + n) (both-l (ltb i (o + n)) _ v), ltb→lt k 8 (both-r (ltb i (o + n)) _ v))
+in-bytes q sp o n i k t = let u = and-r (same q sp) _ t in let v = and-r (leb o i) _ u in
+    (same-eq q sp (and-l (same q sp) _ t), leb→le o i (and-l (leb o i) _ u), ltb→lt i (o + n) (and-l (ltb i (o + n)) _ v), ltb→lt k 8 (and-r (ltb i (o + n)) _ v))
 
 pub in-bit : (q sp : Space) (o b i k : ℕ) → T (within (OneBit q o b) sp i k) → (q ≡ sp) × (i ≡ o) × (k ≡ b)
 unfolding within
-in-bit q sp o b i k t = let u = both-r (same q sp) _ t in
-    (same-eq q sp (both-l (same q sp) _ t), eqb→eq i o (both-l (eqb i o) _ u), eqb→eq k b (both-r (eqb i o) _ u))
+in-bit q sp o b i k t = let u = and-r (same q sp) _ t in
+    (same-eq q sp (and-l (same q sp) _ t), eqb→eq i o (and-l (eqb i o) _ u), eqb→eq k b (and-r (eqb i o) _ u))
 
 pub bytes-in : (q sp : Space) (o n i k : ℕ) → T (same q sp) → o ≤ i → i < o + n → k < 8 → T (within (Bytes q o n) sp i k)
 unfolding within
-bytes-in q sp o n i k s a b c = both (same q sp) _ s (both (leb o i) _ (le→leb o i a) (both (ltb i (o + n)) _ (lt→ltb i (o + n) b) (lt→ltb k 8 c)))
+bytes-in q sp o n i k s a b c = and-in (same q sp) _ s (and-in (leb o i) _ (le→leb o i a) (and-in (ltb i (o + n)) _ (lt→ltb i (o + n) b) (lt→ltb k 8 c)))
 
 pub bit-in : (q sp : Space) (o b i k : ℕ) → T (same q sp) → i ≡ o → k ≡ b → T (within (OneBit q o b) sp i k)
 unfolding within
-bit-in q sp o b i k s e f = both (same q sp) _ s (both (eqb i o) _ (T-yes (eq-eqb i o e)) (T-yes (eq-eqb k b f)))
+bit-in q sp o b i k s e f = and-in (same q sp) _ s (and-in (eqb i o) _ (T-yes (eq-eqb i o e)) (T-yes (eq-eqb k b f)))
 
 pub small-bit : (r : Room) → Small r → (sp : Space) (i k : ℕ) → T (within r sp i k) → k < 8
 small-bit Nowhere b sp i k t = absurd (in-nowhere sp i k t)

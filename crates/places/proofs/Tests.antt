@@ -1,6 +1,6 @@
--- Tests as facts, and what holds of each in a list or of one. A test of two tests is settled by the first of them, and a test over a list by its elements
+-- Two tests as facts, and what holds of each in a list or of one. A test of two tests is settled by the first of them, and a test over a list by its elements
 -- from the front, so each law here follows by cases or by recursion on the list.
-use mathlib.Core.Path.{_≡_, refl, sym, subst}
+use mathlib.Core.Path.{subst}
 use mathlib.Core.Logic.{_⊎_, inl, inr}
 use mathlib.Core.Bool.{Bool, true, false}
 use mathlib.Core.List.{List, [], _∷_, _++_}
@@ -11,21 +11,6 @@ use lib.ListN.{length, getD}
 use Rattle.records.specs.Pick.{pick, _and_, _or_, All}
 use Rattle.units.specs.Sets.{any}
 use Rattle.places.specs.Legal.{Pairs}
-
--- ---- One test
-
-pub T-true : (b : Bool) → T b → b ≡ true
-T-true true t = refl
-
-pub T-yes : {b : Bool} → b ≡ true → T b
-T-yes e = subst T (sym e) tt
-
-pub T-false : (b : Bool) → (T b → ⊥) → b ≡ false
-T-false true h = absurd (h tt)
-T-false false h = refl
-
-pub T-no : {b : Bool} → b ≡ false → T b → ⊥
-T-no e t = subst T e t
 
 -- ---- Two tests
 

@@ -1,7 +1,8 @@
 -- Laws on the front of a tail: a whole record depends on its own bytes alone.
 -- Assumes nothing.
 use mathlib.Core.Path.{_≡_, refl, sym, ap, ap₂, _∙_}
-use mathlib.Core.Bool.{Bool, true, false, true≢false}
+use mathlib.Core.Logic.{_⊎_, inl, inr}
+use mathlib.Core.Bool.{Bool, true, false, true≢false, _&&_, _||_}
 use mathlib.Core.List.{List, [], _∷_, _++_}
 use Prim.Native.Nat.{ℕ, zero, suc, _+_, _*_, _≤_, _<_}
 use native.Mathlib.Omega.{arith}
@@ -9,7 +10,7 @@ use lib.Dec.{ltb, leb, eqb}
 use lib.ListN.{length, getD, take, drop, length-append, List·getD-append}
 use lib.Seq.{getD-take, length-take-le}
 use borrow.Author.Tests.{ltb-true, leb-true, eqb-true, lt-ltb, le-leb}
-use Rattle.records.specs.Pick.{pick, pick-yes, pick-no, _and_, tests}
+use Rattle.records.specs.Pick.{pick, pick-yes, pick-no, _and_, _or_, tests}
 use Rattle.records.specs.Edition.{Edition}
 use Rattle.records.specs.Record.{Rec, storage, function, abi, block, operand, target, end, Read, whole, fault, u8At, u16At, lengths, lengthOf, headerAt, storageIn, abiIn, operandIn, instructionAt, terminatorAt, recordAt, present, read}
 
@@ -19,6 +20,25 @@ pub and-both : (a b : Bool) → (a and b) ≡ true → (a ≡ true) × (b ≡ tr
 unfolding pick
 and-both true b e = (refl, e)
 and-both false b e = absurd (true≢false (sym e))
+
+pub and-make : (a b : Bool) → a ≡ true → b ≡ true → (a and b) ≡ true
+and-make a b e f = pick-yes a b false e ∙ f
+
+pub or-cases : (a b : Bool) → (a or b) ≡ true → (a ≡ true) ⊎ (b ≡ true)
+unfolding pick
+or-cases true b e = inl refl
+or-cases false b e = inr e
+
+-- the shut tests are the usual ones
+pub and-is : (a b : Bool) → (a and b) ≡ (a && b)
+unfolding pick
+and-is true b = refl
+and-is false b = refl
+
+pub or-is : (a b : Bool) → (a or b) ≡ (a || b)
+unfolding pick
+or-is true b = refl
+or-is false b = refl
 
 -- two choices by one test
 pub pick-same : {A : Type 0} (t : Bool) (a a′ b b′ : A) → (t ≡ true → a ≡ a′) → (t ≡ false → b ≡ b′) → pick t a b ≡ pick t a′ b′

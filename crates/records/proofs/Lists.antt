@@ -1,10 +1,10 @@
 -- Laws of the reader's lists, for code that keeps them as bit rows and arrays: one member more, and the number of a unit. Each holds by the list's
 -- elements from the front: a member stands in one of them, and a unit's number is the place of the first that is its word.
 use mathlib.Core.Path.{_≡_, refl, sym, ap, _∙_}
-use mathlib.Core.Bool.{Bool, true, false, true≢false, _||_}
+use mathlib.Core.Bool.{Bool, true, false, true≢false, or-comm}
 use mathlib.Core.Logic.{_⊎_, inl, inr}
 use mathlib.Core.List.{List, [], _∷_, _++_}
-use Prim.Native.Nat.{ℕ, suc, _+_, _/_, _≤_, _<_}
+use Prim.Native.Nat.{ℕ, _+_, _/_, _≤_, _<_, zero, suc}
 use native.Mathlib.Omega.{arith}
 use native.Mathlib.Numerals.{add-one}
 use lib.Dec.{eqb}
@@ -13,7 +13,9 @@ use lib.Seq.{take-suc, take-suc-set}
 use borrow.Author.Tests.{eqb-true, eq-eqb, ne-eqb}
 use Rattle.records.specs.Pick.{pick, pick-yes, pick-no, _or_, has}
 use Rattle.records.specs.Units.{numberIn}
-use Rattle.records.proofs.Numbers.{has-snoc, number-low}
+use Rattle.records.proofs.Front.{or-cases, or-is}
+use Rattle.records.proofs.Range.{Distinct}
+use Rattle.records.proofs.Numbers.{has-snoc, number-low, at-has}
 use Rattle.rows.specs.Row.{memberAt, withAt, pack}
 use Rattle.rows.proofs.Pack.{member-at-pack, pack-with-at, pack-ext}
 
@@ -26,6 +28,17 @@ number-snoc word (u ∷ us) h = go (eqb word u) h (number-snoc word us)
     go : (t : Bool) → (t or has word us) ≡ false → (has word us ≡ false → numberIn word (us ++ (word ∷ [])) ≡ length us) → pick t 0 (suc (numberIn word (us ++ (word ∷ [])))) ≡ suc (length us)
     go true h ih = absurd (true≢false h)
     go false h ih = ap suc (ih h)
+
+-- The unit in place n has number n.
+pub number-of : (us : List ℕ) (n : ℕ) → Distinct us → n < length us → numberIn (getD us n 0) us ≡ n
+unfolding numberIn pick
+number-of [] n d l = absurd (omega arith)
+number-of (u ∷ us) zero d l = rw (eq-eqb u u refl)
+number-of (u ∷ us) (suc n) d l = go (eqb (getD us n 0) u) refl (number-of us n (d .1) (omega arith))
+  where
+    go : (t : Bool) → eqb (getD us n 0) u ≡ t → numberIn (getD us n 0) us ≡ n → pick t 0 (suc (numberIn (getD us n 0) us)) ≡ suc n
+    go true e h = absurd (true≢false (sym (rw (eqb-true (getD us n 0) u e) at (at-has us n (omega arith))) ∙ d .0))
+    go false e h = ap suc h
 
 -- A list that stands at the front of a longer one, after one element more -----------------------------------------------------------------------
 
@@ -40,18 +53,6 @@ has-more x l i h = rw (add-one, take-suc l i 0) (has-snoc x (getD l i 0) (take i
 
 -- A list as a row of four words -------------------------------------------------------------------------------------------------------------------
 
-or-turned : (a b : Bool) → (a || b) ≡ (b or a)
-unfolding pick
-or-turned true true = refl
-or-turned true false = refl
-or-turned false true = refl
-or-turned false false = refl
-
-pub or-split : (a b : Bool) → (a or b) ≡ true → (a ≡ true) ⊎ (b ≡ true)
-unfolding pick
-or-split true b h = inl refl
-or-split false b h = inr h
-
 module _ (row xs : List ℕ) (x : ℕ) (e : row ≡ pack 4 (λ (n : ℕ). has n xs)) (low : x < 256) where
   pub row-has : memberAt row 0 x ≡ has x xs
   row-has = ap (λ (l : List ℕ). memberAt l 0 x) e ∙ member-at-pack 4 (λ (n : ℕ). has n xs) x (omega arith)
@@ -59,11 +60,11 @@ module _ (row xs : List ℕ) (x : ℕ) (e : row ≡ pack 4 (λ (n : ℕ). has n 
   pub row-snoc : withAt row 0 x ≡ pack 4 (λ (n : ℕ). has n (xs ++ (x ∷ [])))
   row-snoc =
       ap (λ (l : List ℕ). withAt l 0 x) e ∙ pack-with-at 4 (λ (n : ℕ). has n xs) x (omega arith)
-      ∙ pack-ext 4 _ _ (λ n k. or-turned (eqb n x) (has n xs) ∙ sym (has-snoc n x xs))
+      ∙ pack-ext 4 _ _ (λ n k. or-comm (eqb n x) (has n xs) ∙ sym (or-is (has n xs) (eqb n x)) ∙ sym (has-snoc n x xs))
 
 -- and the members stay low
 pub low-snoc : (xs : List ℕ) (x : ℕ) → ((n : ℕ) → has n xs ≡ true → n < 256) → x < 256 → (n : ℕ) → has n (xs ++ (x ∷ [])) ≡ true → n < 256
-low-snoc xs x low h n m = go (or-split (has n xs) (eqb n x) (sym (has-snoc n x xs) ∙ m))
+low-snoc xs x low h n m = go (or-cases (has n xs) (eqb n x) (sym (has-snoc n x xs) ∙ m))
   where
     go : (has n xs ≡ true) ⊎ (eqb n x ≡ true) → n < 256
     go (inl p) = low n p

@@ -20,7 +20,7 @@ use Rattle.records.proofs.Counts.{count-at, last-more, seen-more, missi
 use Rattle.records.proofs.TableLaws.{byte-low, row-byte, lacks-in, operandFitsIn, operand-in}
 
 -- a row of n fields is below 256 ^ n
-row-low : (n : ℕ) (row : List Field) → length row ≤ n → rowWord row < 256 ^ n
+pub row-low : (n : ℕ) (row : List Field) → length row ≤ n → rowWord row < 256 ^ n
 unfolding rowWord
 row-low n [] l = omega (arith, one-le-pow n 256 (omega arith))
 row-low zero (x ∷ xs) l = absurd (omega arith)

@@ -15,16 +15,11 @@ use Rattle.records.specs.Record.{Storage, Abi, Operand, Rec, header, sto
 use Rattle.records.specs.Units.{noted}
 use Rattle.records.specs.Step.{Opened, State, start, Turn, next, withHeader, withStorage, withFunction, withBlock, withOpened, withNumber, withUnit, step}
 use Rattle.records.specs.Check.{records, scan}
-use Rattle.records.proofs.Front.{and-both}
+use Rattle.records.proofs.Front.{and-both, or-cases}
 use Rattle.records.proofs.Scan.{Walk, done, more, walk, records-nil, records-whole}
 use Rattle.records.proofs.Took.{Named, Took, stepped, unnamed, givenTo}
 
 -- Lists of numbers -------------------------------------------------------------------------------------------------------------------------
-
-pub or-cases : (a b : Bool) → (a or b) ≡ true → (a ≡ true) ⊎ (b ≡ true)
-unfolding pick
-or-cases true b e = inl refl
-or-cases false b e = inr e
 
 pub has-more : (x : ℕ) (ys zs : List ℕ) → has x ys ≡ true → has x (ys ++ zs) ≡ true
 unfolding has pick

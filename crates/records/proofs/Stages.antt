@@ -15,10 +15,9 @@ use Rattle.records.specs.Edition.{Edition}
 use Rattle.records.specs.Record.{Storage, Abi, Operand, Rec, header, storage, function, abi, block, instruction, operand, terminator, target, end, Read, whole, read}
 use Rattle.records.specs.Step.{Opened, nothing, State, start, next, withHeader, withStorage, withFunction, withBlock, withOpened, withNumber, withUnit, atStart, inStorages, inAbi, inBlock, afterBlock, atEnd, operandFits, lastField}
 use Rattle.records.specs.Program.{Step, Block, Function, Rest, empty, putStep, put}
-use Rattle.records.proofs.Front.{and-both}
+use Rattle.records.proofs.Front.{and-both, or-cases}
 use Rattle.records.proofs.Scan.{Walk, done, more}
 use Rattle.records.proofs.Took.{Named, Took, Stepped, stepped, unnamed, givenTo}
-use Rattle.records.proofs.Range.{or-cases}
 use Rattle.records.proofs.Contents.{rest, rest-nil, rest-whole}
 
 -- in a block, or after its terminator

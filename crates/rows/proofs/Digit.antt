@@ -120,7 +120,7 @@ bit-eq a b i = digit-two (λ (x y : ℕ). eqb x 1 ≡ eqb y 1 → x ≡ y)
 halves : {a b : ℕ} → a / 2 ≡ b / 2 → a % 2 ≡ b % 2 → a ≡ b
 halves p q = omega arith
 
-half-lt : {a : ℕ} (k : ℕ) → a < 2 ^ suc k → a / 2 < 2 ^ k
+pub half-lt : {a : ℕ} (k : ℕ) → a < 2 ^ suc k → a / 2 < 2 ^ k
 half-lt {a} k h = let p : 2 ^ suc k ≡ 2 ^ k * 2 = pow-suc 2 k in omega arith
 
 pub word-ext : (k a b : ℕ) → a < 2 ^ k → b < 2 ^ k → ((i : ℕ) → i < k → digit a i ≡ digit b i) → a ≡ b

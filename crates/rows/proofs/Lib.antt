@@ -1,3 +1,4 @@
+pub mod Tests
 pub mod Digit
 pub mod Rows
 pub mod Members

@@ -1,7 +1,7 @@
 -- Rows as sets, for any number of words. A number is one bit of one word, so each operation's law is the law of that bit;
 -- a store changes one word, and of it one bit; and rows of 64-bit words that have the same members have the same bits.
 use mathlib.Core.Path.{_≡_, refl, sym, ap, _∙_}
-use mathlib.Core.Bool.{Bool, true, false, not, _&&_, _||_}
+use mathlib.Core.Bool.{Bool, true, false, not, _&&_, _||_, or-true, or-false, and-true, and-false}
 use mathlib.Core.Logic.{_⊎_, inl, inr, ⊎-elim}
 use mathlib.Core.List.{List, _∷_}
 use Prim.Native.Nat.{ℕ, suc, _+_, _-_, _*_, _/_, _%_, _^_, _≤_, _<_}
@@ -110,22 +110,6 @@ module _ (r : List ℕ) (n : ℕ) where
   pub length-without : length (without r n) ≡ length r
   unfolding without
   length-without = length-set r _ _
-
-or-true : (t : Bool) → (t || true) ≡ true
-or-true true = refl
-or-true false = refl
-
-or-false : (t : Bool) → (t || false) ≡ t
-or-false true = refl
-or-false false = refl
-
-and-true : (t : Bool) → (t && true) ≡ t
-and-true true = refl
-and-true false = refl
-
-and-false : (t : Bool) → (t && false) ≡ false
-and-false true = refl
-and-false false = refl
 
 module _ (w k : ℕ) where
   bit-with-same : bit (bitOr w (2 ^ k)) k ≡ true

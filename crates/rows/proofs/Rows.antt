@@ -1,7 +1,7 @@
 -- Rows as lists of words, for any number of words. A row is a stretch of a longer list, so two rows are equal
 -- where they have equal words, and a store or a written row changes no word outside its own stretch.
 use mathlib.Core.Path.{_≡_, refl, sym, ap, ap₂, _∙_}
-use mathlib.Core.Bool.{Bool, true, false, _&&_, false≢true}
+use mathlib.Core.Bool.{Bool, true, false, false≢true, and-eq-true-iff}
 use mathlib.Core.Logic.{_⊎_, inl, inr, ⊎-elim}
 use mathlib.Core.List.{List, [], _∷_, _++_, append-nil}
 use Prim.Native.Nat.{ℕ, zero, suc, _+_, _-_, _*_, _≤_, _<_}
@@ -148,17 +148,13 @@ unfolding sameRow
 same-refl [] = refl
 same-refl (x ∷ a) = rw (eq-eqb x x refl) (same-refl a)
 
-both : (s t : Bool) → (s && t) ≡ true → (s ≡ true) × (t ≡ true)
-both true t e = (refl, e)
-both false t e = absurd (false≢true e)
-
 pub same-true : (a b : List ℕ) → sameRow a b ≡ true → a ≡ b
 unfolding sameRow
 same-true [] [] e = refl
 same-true [] (y ∷ b) e = absurd (false≢true e)
 same-true (x ∷ a) [] e = absurd (false≢true e)
 same-true (x ∷ a) (y ∷ b) e =
-    let p = both (eqb x y) (sameRow a b) e in ap₂ {C = List ℕ} (λ u v. u ∷ v) (eqb-true x y (p .0)) (same-true a b (p .1))
+    let p = and-eq-true-iff (eqb x y) (sameRow a b) .0 e in ap₂ {C = List ℕ} (λ u v. u ∷ v) (eqb-true x y (p .0)) (same-true a b (p .1))
 
 pub same-false : (a b : List ℕ) → (a ≡ b → ⊥) → sameRow a b ≡ false
 same-false a b d = go (sameRow a b) refl

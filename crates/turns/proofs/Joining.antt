@@ -10,6 +10,7 @@ use native.Mathlib.Decide.{decLt}
 use lib.Dec.{T, eqb, eqb→eq, T-not}
 use lib.ListN.{length, getD}
 use borrow.Author.Tests.{eq-eqb}
+use Rattle.rows.proofs.Tests.{T-yes, T-no}
 use Rattle.records.specs.Pick.{pick}
 use Rattle.storages.specs.declared.Fixed.{Fixed}
 use Rattle.storages.specs.declared.Fixed.the-variants as fixed
@@ -22,7 +23,7 @@ use Rattle.maps.specs.declared.Found.the-variants.{Nothing, At}
 use Rattle.maps.specs.Maps.{later}
 use Rattle.slots.specs.Slots.{suits}
 use Rattle.places.specs.Place.{Given, Opened, noOpened, fits, partners, fitsCopied, firstSlot, orElse, slotFor}
-use Rattle.places.proofs.Tests.{T-yes, T-no, and-l, and-r}
+use Rattle.places.proofs.Tests.{and-l, and-r}
 
 abbrev pub slotAt : List Opened → ℕ → Opened
 slotAt ts j = getD ts j noOpened

@@ -10,6 +10,7 @@ use lib.ListN.{length, take, getD, replicate}
 use lib.Seq.{getD-take}
 use borrow.Author.Tests.{eq-eqb, ne-eqb, eqb-true, not-false}
 use Rattle.rows.specs.Row.{member, memberAt, less, row, put, lessRow, sameRow}
+use Rattle.rows.proofs.Tests.{T-true, T-yes, T-false}
 use Rattle.rows.proofs.Rows.{row-whole, length-zip, put-whole, same-true}
 use Rattle.rows.proofs.Members.{member-at-zero, member-less}
 use Rattle.records.specs.Pick.{pick, pick-yes, pick-no, _and_, _or_, All}
@@ -23,7 +24,7 @@ use Rattle.slots.specs.Slots.{noSlot, suits, passes, firstOf}
 use Rattle.slots.proofs.Laws.{first-is, first-none}
 use Rattle.places.specs.Place.{Given, Opened, fits, partners, fitsCopied, firstSlot, orElse, slotFor, Placed, State}
 use Rattle.turns.specs.Held.{slotNumber, inSlot, Owned, Tells, anyIn, Marked, Kept, slotIn}
-use Rattle.places.proofs.Tests.{T-true, T-yes, T-false, and-l}
+use Rattle.places.proofs.Tests.{and-l}
 use Rattle.turns.proofs.Joining.{slotAt, FirstSlot, first-slot}
 use Rattle.turns.proofs.Numbering.{any-ids}
 use Rattle.turns.proofs.Marking.{none-marked}

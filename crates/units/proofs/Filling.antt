@@ -23,7 +23,8 @@ use Rattle.records.proofs.Front.{read-whole, whole-read, and-both}
 use Rattle.records.proofs.ByKind.{length-one, length-none, kind-header, kind-storage, kind-function, kind-abi, kind-block, kind-instruction, kind-operand, kind-terminator, kind-target, kind-end}
 use Rattle.records.proofs.Scan.{tail-some}
 use Rattle.records.proofs.Contents.{OperandIn, AbiIn, rest, rest-whole}
-use Rattle.records.proofs.Numbers.{number-low, number-at, at-has}
+use Rattle.records.proofs.Numbers.{number-low, number-at}
+use Rattle.records.proofs.Lists.{number-of}
 use Rattle.records.proofs.Range.{Distinct}
 use Rattle.units.specs.Sets.{select}
 use Rattle.units.specs.Uses.{unitsIn, unitsOf}
@@ -283,16 +284,6 @@ chosen t (i ∷ is) = pick (t (i .tag) and i .unit) (i .word ∷ chosen t is) (c
 abbrev Beside : List ℕ → List ℕ → ℕ → List Item → Type 0
 Beside us found k [] = Unit {0}
 Beside us found k (i ∷ is) = (getD found k 0 ≡ pick (i .unit) (numberIn (i .word) us) noUnit) × (i .unit ≡ true → has (i .word) us ≡ true) × Beside us found (k + 1) is
-
-number-of : (us : List ℕ) (m : ℕ) → Distinct us → m < length us → numberIn (getD us m 0) us ≡ m
-unfolding numberIn pick
-number-of [] m d l = absurd (omega arith)
-number-of (u ∷ us) zero d l = rw (eq-eqb u u refl)
-number-of (u ∷ us) (suc m) d l = go (eqb (getD us m 0) u) refl (number-of us m (d .1) (omega arith))
-  where
-    go : (t : Bool) → eqb (getD us m 0) u ≡ t → numberIn (getD us m 0) us ≡ m → pick t 0 (suc (numberIn (getD us m 0) us)) ≡ suc m
-    go true e h = absurd (true≢false (sym (rw (eqb-true (getD us m 0) u e) at (at-has us m (omega arith))) ∙ d .0))
-    go false e h = ap suc h
 
 module _ (us : List ℕ) (once : Distinct us) (most : length us ≤ 512) where
   same-number : (w m : ℕ) → has w us ≡ true → m < length us → eqb (getD us m 0) w ≡ eqb m (numberIn w us)

@@ -17,14 +17,13 @@ use Rattle.records.specs.Step.{State, start, atStart, atEnd}
 use Rattle.records.specs.Check.{units, check, atTail, piecesBy, pieces, records}
 use Rattle.records.specs.Program.{Function, Rest, putStep, put, stepOf, functionOf}
 use Rattle.records.specs.Place.{step, nowhere, noFunction, within, startsWith, findIn, stepAt}
-use Rattle.records.proofs.Front.{read-whole, read-take}
+use Rattle.records.proofs.Front.{read-whole, read-take, or-cases}
 use Rattle.records.proofs.ByKind.{length-one, length-none, kind-header, kind-storage, kind-function, kind-abi, kind-block, kind-instruction, kind-operand, kind-terminator, kind-target, kind-end}
 use Rattle.records.proofs.Scan.{Walk, done, more, walk, pieces-nil, pieces-whole}
 use Rattle.records.proofs.Took.{stepped}
 use Rattle.records.proofs.Contents.{rest, rest-whole}
 use Rattle.records.proofs.Stages.{Calm, start-calm, Passed, passed}
 use Rattle.records.proofs.Reading.{no-kind, no-body, whole-kind}
-use Rattle.records.proofs.Lists.{or-split}
 use Rattle.records.proofs.Accepted.{read-out}
 use Rattle.units.specs.Along.{from, Stands, StandsAt, functionFrom, stepFrom, IsStep, brought, broughtBy, Locates}
 use Rattle.units.specs.declared.cursor.Cursor.{Cursor}
@@ -233,7 +232,7 @@ going-end f place own at k l g = g .same ∙ rw (ap (pieces one) (drop-of-length
 
 -- the code's flags
 pub step-kind : (kind : ℕ) (r : Bool) → r ≡ (eqb kind 5 or eqb kind 7) → r ≡ true → (kind ≡ 5) ⊎ (kind ≡ 7)
-step-kind kind r e h = ⊎-elim (λ q. inl (eqb-true kind 5 q)) (λ q. inr (eqb-true kind 7 q)) (or-split (eqb kind 5) (eqb kind 7) (sym e ∙ h))
+step-kind kind r e h = ⊎-elim (λ q. inl (eqb-true kind 5 q)) (λ q. inr (eqb-true kind 7 q)) (or-cases (eqb kind 5) (eqb kind 7) (sym e ∙ h))
 
 pub no-step-kind : (kind : ℕ) (r : Bool) → r ≡ (eqb kind 5 or eqb kind 7) → r ≡ false → (kind ≡ 5 → ⊥) × (kind ≡ 7 → ⊥)
 unfolding pick

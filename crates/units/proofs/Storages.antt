@@ -2,7 +2,7 @@
 -- the numbers in the row are those of the words in the set.
 use mathlib.Core.Path.{_≡_, refl, sym, ap, _∙_}
 use mathlib.Core.Logic.{_⊎_, inl, inr, ⊎-elim}
-use mathlib.Core.Bool.{Bool, true, false, true≢false, _||_}
+use mathlib.Core.Bool.{Bool, true, false, true≢false}
 use mathlib.Core.List.{List, [], _∷_, _++_, map}
 use Prim.Native.Nat.{ℕ, zero, suc, _+_, _-_, _/_, _%_, _≤_, _<_}
 use native.Mathlib.Numerals.{add-one}
@@ -11,6 +11,7 @@ use lib.Dec.{eqb}
 use lib.ListN.{length, getD, drop, replicate, List·getD-append, length-append}
 use borrow.Author.Tests.{eqb-true, eqb-false, eq-eqb, ltb-true, lt-ltb}
 use Rattle.rows.specs.Row.{member, memberAt, withAt, put, pack}
+use Rattle.rows.proofs.Tests.{same-test}
 use Rattle.rows.proofs.Rows.{put-whole}
 use Rattle.rows.proofs.Members.{member-at-zero}
 use Rattle.rows.proofs.Pack.{length-pack, member-pack, pack-ext, pack-none, pack-with-at}
@@ -22,8 +23,7 @@ use Rattle.records.specs.Check.{units, check}
 use Rattle.records.specs.Outcome.{laid}
 use Rattle.records.specs.Program.{Step, Block, Function, program}
 use Rattle.records.specs.Place.{step, stepAt}
-use Rattle.records.proofs.Lists.{or-split}
-use Rattle.records.proofs.Front.{and-both}
+use Rattle.records.proofs.Front.{and-both, and-make, or-cases, or-is}
 use Rattle.records.proofs.Numbers.{number-low, number-at}
 use Rattle.records.proofs.Shape.{idsOf}
 use Rattle.records.proofs.Contents.{OperandIn, AbiIn, StepIn, BlockIn, FunctionIn}
@@ -36,19 +36,10 @@ use Rattle.units.specs.Seek.{Within, storagesBelow}
 
 -- Members of lists ----------------------------------------------------------------------------------------------------------------------------
 
-bool-same : (a b : Bool) → (a ≡ true → b ≡ true) → (b ≡ true → a ≡ true) → a ≡ b
-bool-same true b p q = sym (p refl)
-bool-same false true p q = q refl
-bool-same false false p q = refl
-
 or-right : (a b : Bool) → b ≡ true → (a or b) ≡ true
 unfolding pick
 or-right true b e = refl
 or-right false b e = e
-
-and-make : (a b : Bool) → a ≡ true → b ≡ true → (a and b) ≡ true
-unfolding pick
-and-make a b p q = rw (p, q)
 
 none-in : (x : ℕ) → has x [] ≡ true → ⊥
 unfolding has
@@ -64,7 +55,7 @@ later-in x y l h = or-right (eqb x y) (has x l) h
 
 one-of : (x y : ℕ) (l : List ℕ) → has x (y ∷ l) ≡ true → (x ≡ y) ⊎ (has x l ≡ true)
 unfolding has
-one-of x y l h = ⊎-elim (λ e. inl (eqb-true x y e)) (λ e. inr e) (or-split (eqb x y) (has x l) h)
+one-of x y l h = ⊎-elim (λ e. inl (eqb-true x y e)) (λ e. inr e) (or-cases (eqb x y) (has x l) h)
 
 map-in : (g : ℕ → ℕ) (x : ℕ) (l : List ℕ) → has x l ≡ true → has (g x) (map g l) ≡ true
 map-in g x [] h = absurd (none-in x h)
@@ -140,11 +131,7 @@ unfolding has pick
 storages-yes words row after after′ n s e h d l q =
     rw (add-one n, below-yes words row n (sym (member-at-zero row n) ∙ h), ← d)
     (q ∙ ap (λ (v : List ℕ). withAt v 0 s) e ∙ pack-with-at 4 (λ i. has i (storagesBelow words row n)) s l
-    ∙ pack-ext 4 _ _ (λ i _. or-same (eqb i s) (has i (storagesBelow words row n))))
-  where
-    or-same : (a b : Bool) → (a || b) ≡ (a or b)
-    or-same true b = refl
-    or-same false b = refl
+    ∙ pack-ext 4 _ _ (λ i _. sym (or-is (eqb i s) (has i (storagesBelow words row n)))))
 
 pub storages-end : (words row after : List ℕ) (n : ℕ) → n ≤ 512 → 512 ≤ n → after ≡ pack 4 (λ i. has i (storagesBelow words row n)) → after ≡ pack 4 (λ i. has i (storagesBelow words row 512))
 storages-end words row after n a b e = let k : n ≡ 512 = omega arith in rw k at e
@@ -182,7 +169,7 @@ module _ (us set before : List ℕ) (few : length us ≤ 512) where
 
   pub storages-are : Within set us → pack 4 (λ i. has i (storagesBelow words (unitRow one us set) 512)) ≡ storageRow one set
   unfolding storageRow storagesOf
-  storages-are inside = pack-ext 4 _ _ (λ i _. bool-same _ _ (there i) (back i))
+  storages-are inside = pack-ext 4 _ _ (λ i _. same-test _ _ (there i) (back i))
     where
       there : (i : ℕ) → has i (storagesBelow words (unitRow one us set) 512) ≡ true → has i (map (storageOf one) set) ≡ true
       there = below-in words (unitRow one us set) (map (storageOf one) set) 512

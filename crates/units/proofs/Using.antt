@@ -5,7 +5,6 @@ use mathlib.Core.Bool.{Bool, true, false, true≢false}
 use mathlib.Core.List.{List, [], _∷_, _++_}
 use Prim.Native.Nat.{ℕ, zero, suc, _+_, _*_, _/_, _%_, _^_, _≤_, _<_}
 use native.Mathlib.Omega.{arith}
-use native.Mathlib.Nat.{pow-succ', one-le-pow}
 use lib.Dec.{ltb, eqb}
 use lib.ListN.{length, getD, drop, replicate, length-drop, drop-of-length-le}
 use lib.Seq.{drop-drop}
@@ -20,7 +19,8 @@ use Rattle.records.specs.Record.{Abi, u8At}
 use Rattle.records.specs.Step.{fieldAt}
 use Rattle.records.specs.Program.{Function, program, rowBy, stepOf}
 use Rattle.records.proofs.Front.{and-both}
-use Rattle.records.proofs.TableLaws.{byte-low, row-byte, end-fields-row, fields-short, end-fields-short}
+use Rattle.records.proofs.TableLaws.{row-byte, end-fields-row, fields-short, end-fields-short}
+use Rattle.records.proofs.Pendings.{row-low}
 use Rattle.units.specs.Sets.{select}
 use Rattle.units.specs.Uses.{isResult, unitsIn, unitsOf, Lookup, lookup, abisBy, abisOf, readsField, writesField, reads, writes}
 use Rattle.units.specs.Rows.{unitRow}
@@ -30,12 +30,6 @@ use Rattle.units.specs.declared.cursor.Cursor.{Cursor}
 use Rattle.units.proofs.Filling.{roles-far, fields-count, operands-on, step-on, operand-marks, abi-marks}
 
 -- The fields of a row ----------------------------------------------------------------------------------------------------------------------------
-
-row-low : (n : ℕ) (row : List Field) → length row ≤ n → rowWord row < 256 ^ n
-unfolding rowWord
-row-low n [] l = omega (arith, one-le-pow n 256 (omega arith))
-row-low zero (x ∷ xs) l = absurd (omega arith)
-row-low (suc n) (x ∷ xs) l = omega (arith, pow-succ' 256 n, byte-low x, row-low n xs (omega arith))
 
 entry-row : (row : List Field) → length row ≤ 6 → entryOf row % above ≡ rowWord row
 unfolding entryOf
@@ -128,7 +122,7 @@ module _ (ns : List ℕ) where
   unfolding marks
   marks-far t f row k l = rw (roles-far f 65535 l)
 
-no-units : (us : List ℕ) → replicate 8 0 ≡ unitRow one us []
+pub no-units : (us : List ℕ) → replicate 8 0 ≡ unitRow one us []
 unfolding unitRow has pick
 no-units us = sym (pack-none 8) ∙ pack-ext 8 _ _ (λ n l. go (ltb n (length us)))
   where

@@ -3,7 +3,8 @@
 use mathlib.Core.Path.{sym, _∙_}
 use borrow.Author.Needs.{needs}
 use borrow.Author.Tests.{lt-ltb, le-ltb}
-use Rattle.meetings.proofs.Closes.{neither, not-second, both, linked-no, linked-yes}
+use Rattle.records.proofs.Front.{and-make}
+use Rattle.meetings.proofs.Closes.{neither, not-second, linked-no, linked-yes}
 use Rattle.meetings.proofs.close.hold_one.Statement.{statement}
 use Rattle.meetings.proofs.close.hold_one.Tie as tie
 
@@ -23,7 +24,7 @@ returns-2 : tie.Need-returns-2
 returns-2 c =
     let u = c .before .before in
     let w = u .before .before in
-    linked-yes _ _ _ _ (both _ _ (lt-ltb _ _ (w .before .before .if1 .left)) (sym (w .before .has .ensures) ∙ w .if2 .taken)) (u .hold-all .ensures)
+    linked-yes _ _ _ _ (and-make _ _ (lt-ltb _ _ (w .before .before .if1 .left)) (sym (w .before .has .ensures) ∙ w .if2 .taken)) (u .hold-all .ensures)
 
 returns-3 : tie.Need-returns-3
 returns-3 c = linked-no _ _ _ (not-second _ _ (lt-ltb _ _ (c .before .before .if1 .left)) (sym (c .before .has .ensures) ∙ c .if2 .left))

@@ -2,7 +2,8 @@
 -- Assumes nothing.
 use borrow.Author.Needs.{needs}
 use borrow.Author.Tests.{eq-eqb, ne-eqb, lt-ltb, le-ltb}
-use Rattle.meetings.proofs.Closes.{neither, not-second, both, linked-no, linked-yes}
+use Rattle.records.proofs.Front.{and-make}
+use Rattle.meetings.proofs.Closes.{neither, not-second, linked-no, linked-yes}
 use Rattle.meetings.proofs.close.link_owned.Statement.{statement}
 use Rattle.meetings.proofs.close.link_owned.Tie as tie
 
@@ -22,7 +23,7 @@ returns-3 : tie.Need-returns-3
 returns-3 c =
     let u = c .before .before in
     let w = u .before .before in
-    linked-yes _ _ _ _ (both _ _ (eq-eqb _ _ (w .before .if1 .left)) (lt-ltb _ _ (w .if2 .left))) (u .link .ensures)
+    linked-yes _ _ _ _ (and-make _ _ (eq-eqb _ _ (w .before .if1 .left)) (lt-ltb _ _ (w .if2 .left))) (u .link .ensures)
 
 pub link-owned-spec : {M : Type 1} → statement M
 link-owned-spec = tie.close (tie.spec returns returns-2 link-requires same-length returns-3)
