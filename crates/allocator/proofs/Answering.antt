@@ -2,7 +2,7 @@
 -- leaves the result. Each way out is one law.
 use mathlib.Core.Path.{_≡_, refl, sym, ap, _∙_, subst}
 use mathlib.Core.Bool.{Bool, true, false}
-use mathlib.Core.List.{List, [], _∷_, _++_, append-nil, append-assoc, map}
+use mathlib.Core.List.{List, [], _++_, append-nil, map}
 use Prim.Native.Nat.{ℕ, _-_, _≤_, _<_}
 use native.Mathlib.Omega.{arith}
 use lib.Dec.{ltb}
@@ -32,7 +32,7 @@ use Rattle.graph.proofs.Drawing.{none}
 use Rattle.places.specs.Place.{Given, Outcome, done, refused, place, recordsOf}
 use Rattle.turns.specs.Held.{Tells}
 use Rattle.allocator.specs.All.{Fit, Allocates}
-use Rattle.allocator.specs.Placing.{Lent, given, placing, placedBy, placedAfter, placedFrom, placed, Places, PlacesIn, Analysed, PlacesOn}
+use Rattle.allocator.specs.Placing.{Lent, given, placing, placedBy, placedFrom, placed, Places, PlacesIn, Analysed, PlacesOn}
 use Rattle.allocator.specs.declared.Placing.{Placing}
 use Rattle.allocator.specs.declared.Placing.the-variants.{Done, Refused}
 use Rattle.allocator.specs.declared.all.Allocated.{Allocated}

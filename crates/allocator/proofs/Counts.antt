@@ -2,7 +2,7 @@
 -- passes. So no count is cut where an answer gives it a few bits. Assumes nothing.
 use mathlib.Core.Path.{_≡_, subst, ap, _∙_, sym}
 use mathlib.Core.List.{List, [], _∷_, map}
-use Prim.Native.Nat.{ℕ, _+_, _*_, _≤_}
+use Prim.Native.Nat.{ℕ, _*_, _≤_}
 use native.Mathlib.Omega.{arith}
 use lib.ListN.{length, length-map}
 use Rattle.records.specs.Pick.{All}

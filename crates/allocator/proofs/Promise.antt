@@ -1,9 +1,9 @@
 -- Demand 3 for every accepted file that is placed: the laws of placing (Laws.antt) with the graph of the file's program, whose interference goes both ways, and
 -- with the header and the storages that an accepted file has.
-use mathlib.Core.Path.{_≡_, sym, ap, _∙_}
-use mathlib.Core.Bool.{Bool, true, not}
+use mathlib.Core.Path.{_≡_}
+use mathlib.Core.Bool.{true}
 use mathlib.Core.List.{List, [], _∷_, map}
-use Prim.Native.Nat.{ℕ, _+_, _≤_, _<_}
+use Prim.Native.Nat.{ℕ, _≤_, _<_}
 use native.Mathlib.Omega.{arith}
 use lib.Dec.{T}
 use lib.ListN.{length, getD, length-map}
@@ -19,7 +19,7 @@ use Rattle.storages.specs.declared.Space.the-variants.{App}
 use Rattle.storages.specs.Storage.{stored}
 use Rattle.storages.specs.Room.{room, touches}
 use Rattle.graph.proofs.GraphLaws.{symmetric}
-use Rattle.places.specs.Place.{Given, Placed, State, done}
+use Rattle.places.specs.Place.{Placed, State, done}
 use Rattle.places.specs.Legal.{Legal, Inside, FixedSmall, Sharing}
 use Rattle.allocator.specs.Placing.{given, placing}
 use Rattle.allocator.proofs.Fitting.{fits-small, header-low}

@@ -3,10 +3,7 @@
 mod all;
 
 ghost use mathlib.Core.Path.{_≡_};
-ghost use mathlib.Core.List.{List};
-ghost use Prim.Native.Nat.{ℕ};
 ghost use lib.ListN.{length};
-ghost use Rattle.records.specs.Edition.{one};
 ghost use Rattle.graph.specs.Graphs as G;
 ghost use Rattle.allocator.specs.Placing.{Analysed, PlacesIn, PlacesOn, Places};
 use crate::all::Allocated;

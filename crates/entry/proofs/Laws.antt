@@ -1,11 +1,11 @@
 -- The packed number says what an operation answered, since each operation's contract is an equation with its one outcome.
 -- So each law takes that equation apart, field by field.
 use mathlib.Core.Path.{_≡_, sym, ap, _∙_}
-use Prim.Native.Nat.{ℕ, _%_}
+use Prim.Native.Nat.{ℕ}
 use mathlib.Core.List.{List}
 use Rattle.records.specs.Outcome.{Outcome, Checks}
 use Rattle.records.specs.declared.Checked.{Checked}
-use Rattle.records.specs.declared.Checked.the-variants.{Units, Refused}
+use Rattle.records.specs.declared.Checked.the-variants.{Refused}
 use Rattle.records.specs.declared.Refusal.{Refusal}
 use Rattle.units.specs.Ask.{Query, Asked, Asks, Told, Tells}
 use Rattle.units.specs.declared.Answered.{Answered}

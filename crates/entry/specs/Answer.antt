@@ -4,11 +4,11 @@ use Prim.Native.Nat.{ℕ, _+_, _*_, _%_}
 use mathlib.Core.List.{List}
 use Rattle.records.specs.Edition.{one}
 use Rattle.records.specs.Refusal.{numberOf, valueOf}
-use Rattle.records.specs.Outcome.{Outcome, outcome}
+use Rattle.records.specs.Outcome.{outcome}
 use Rattle.records.specs.declared.Refusal.{Refusal}
 use Rattle.records.specs.declared.Checked.{Checked}
 use Rattle.records.specs.declared.Checked.the-variants as checked
-use Rattle.units.specs.Ask.{Query, Asked, asked, Told, told}
+use Rattle.units.specs.Ask.{Query, asked, told}
 use Rattle.allocator.specs.Placing as places
 use Rattle.allocator.specs.declared.Placing.{Placing}
 use Rattle.allocator.specs.declared.Placing.the-variants as placing

@@ -10,13 +10,12 @@ use lib.Seq.{take-all}
 use Rattle.rows.specs.Row.{row, put}
 use Rattle.rows.proofs.Rows.{lt-or-ge, length-row, put-whole}
 use Rattle.records.specs.Edition.{one}
-use Rattle.records.specs.Program.{Step, Block, Function, program}
-use Rattle.units.specs.Rows.{unitRow}
+use Rattle.records.specs.Program.{Step, Function, program}
 use Rattle.units.specs.Along.{from, StandsAt, Sound, Ready}
 use Rattle.units.specs.declared.cursor.Cursor.{Cursor}
 use Rattle.units.proofs.Standing.{units-once, units-most}
 use Rattle.passes.specs.Passes.{Given, Solved}
-use Rattle.liveness.specs.Flow.{Use, Flow, noFlow, useOf, flowOf, flows}
+use Rattle.liveness.specs.Flow.{Use, Flow, noFlow, flowOf, flows}
 use Rattle.liveness.specs.Settle.{flowAt, settledBy, liveness}
 use Rattle.liveness.specs.Lives.{liveWords}
 use Rattle.liveness.specs.Walks.{FunctionHere}
@@ -24,7 +23,7 @@ use Rattle.liveness.specs.Survey.{blockAt, BeginAt, Surveyed}
 use Rattle.liveness.proofs.SetLaws.{mem-at}
 use Rattle.liveness.proofs.SettleLaws.{flows-length, settled-outs}
 use Rattle.liveness.proofs.UseLaws.{flow-at, accepted-listed, outs-among}
-use Rattle.graph.specs.Gathered.{Stop, stopsIn, stopsFrom, stopsOf, Within, Paired, Addressed}
+use Rattle.graph.specs.Gathered.{Stop, stopsIn, stopsFrom, stopsOf, Paired, Addressed}
 use Rattle.graph.specs.Walking.{usesAt, Noted, Told, useAt, Fits, Sized, BlockTaken, Safe, OneTaken, Ordered, Begun, stopsUpto, BlocksTaken, Owner, Follows, FunctionTaken}
 use Rattle.graph.proofs.Meeting.{gathered-swap, paired-swap, addressed-swap}
 use Rattle.liveness.proofs.Solving.{out-rows, live-of-file}

@@ -1,19 +1,18 @@
 -- Laws of the public operation: what the walk leaves is what the one outcome names, a refusal leaves cleared words, and what lies past the needed words
 -- stays. Each way out is one law.
 use mathlib.Core.Path.{_≡_, refl, sym, ap, _∙_}
-use mathlib.Core.Bool.{Bool, true, false}
-use mathlib.Core.List.{List, [], _∷_, _++_, append-nil, append-assoc}
-use Prim.Native.Nat.{ℕ, _-_, _≤_, _<_}
+use mathlib.Core.Bool.{Bool, false}
+use mathlib.Core.List.{List, [], _++_, append-nil}
+use Prim.Native.Nat.{ℕ, _≤_, _<_}
 use native.Mathlib.Omega.{arith}
-use lib.ListN.{length, drop, replicate, length-replicate, drop-of-length-le}
+use lib.ListN.{length, drop, replicate, length-replicate}
 use borrow.Author.Tests.{le-ltb, lt-ltb}
 use Rattle.rows.specs.Row as W
 use Rattle.rows.proofs.Rows.{put-whole}
-use Rattle.records.specs.Pick.{pick, pick-yes, pick-no, _or_}
+use Rattle.records.specs.Pick.{pick, pick-no, _or_}
 use Rattle.records.specs.Edition.{one}
 use Rattle.records.specs.Check.{Answer, units, refusal, check}
 use Rattle.records.specs.Outcome as R
-use Rattle.records.specs.Program.{program}
 use Rattle.records.specs.declared.Refusal.{Refusal}
 use Rattle.records.specs.declared.Refusal.the-variants.{Short}
 use Rattle.records.specs.declared.Checked.{Checked}
@@ -21,8 +20,8 @@ use Rattle.records.specs.declared.Checked.the-variants as checked
 use Rattle.records.proofs.Outcomes.{laid-rest}
 use Rattle.records.proofs.Accepted.{accepted}
 use Rattle.passes.specs.Passes.{blank}
-use Rattle.graph.specs.Graph.{interferes, copied, passes}
-use Rattle.graph.specs.Graphs.{Outcome, graphedBy, graphed, lastLive, relationRows, GraphsIn, Graphs}
+use Rattle.graph.specs.Graph.{passes}
+use Rattle.graph.specs.Graphs.{Outcome, graphedBy, graphed, GraphsIn, Graphs}
 use Rattle.graph.specs.Walking.{Counted, Whole}
 use Rattle.graph.specs.declared.Graphed.{Graphed}
 use Rattle.graph.specs.declared.Graphed.the-variants.{Passes, Refused}

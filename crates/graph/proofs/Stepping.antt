@@ -2,7 +2,7 @@
 -- and the live row goes over it. A block's steps are taken from the last to the first, each with what is live after it.
 use mathlib.Core.Path.{_≡_, refl, sym, ap, ap₂, _∙_, subst}
 use mathlib.Core.Logic.{_⊎_, inl, inr}
-use mathlib.Core.Bool.{Bool, true, false, not, _&&_, _||_, or-comm, and-eq-true-iff}
+use mathlib.Core.Bool.{Bool, true, false, not, _||_, or-comm, and-eq-true-iff}
 use mathlib.Core.List.{List, [], _∷_, _++_, map, List·Memᴰ, List·Memᴰ·head, List·Memᴰ·tail}
 use Prim.Native.Nat.{ℕ, zero, suc, _+_, _≤_, _<_}
 use native.Mathlib.Omega.{arith}
@@ -22,7 +22,6 @@ use Rattle.units.specs.Uses.{isInstruction, reads, writes}
 use Rattle.units.specs.Rows.{unitRow}
 use Rattle.units.specs.Along.{from, stepFrom, IsStep, StandsAt, Ready}
 use Rattle.units.specs.declared.cursor.Cursor.{Cursor}
-use Rattle.liveness.specs.Sets.{join}
 use Rattle.liveness.specs.Flow.{Use, useOf}
 use Rattle.liveness.specs.Settle.{before}
 use Rattle.liveness.specs.Survey.{BeginAt}

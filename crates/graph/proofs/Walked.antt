@@ -2,14 +2,13 @@
 -- summed, and the words those of the last function. A file has no more functions than bytes, so the sum stays small.
 use mathlib.Core.Path.{_≡_, refl, sym, ap, ap₂, _∙_, subst}
 use mathlib.Core.Logic.{_⊎_, inl, inr}
-use mathlib.Core.Bool.{Bool, true, false, true≢false}
+use mathlib.Core.Bool.{true, false, true≢false}
 use mathlib.Core.List.{List, [], _∷_, _++_, map, append-assoc, append-nil, List·Memᴰ, List·Memᴰ·head, Memᴰ·append-right}
 use Prim.Native.Nat.{ℕ, zero, suc, _+_, _-_, _*_, _≤_, _<_}
 use native.Mathlib.Omega.{arith}
 use borrow.Author.Tests.{eqb-true, eq-eqb}
 use lib.Dec.{eqb}
 use lib.ListN.{length, getD, drop, length-append, replicate, length-replicate}
-use lib.Seq.{getD-drop}
 use Rattle.rows.specs.Row as W
 use Rattle.rows.proofs.Rows.{lt-or-ge, row-ext, row-whole, getD-put-in, getD-put-out}
 use Rattle.rows.proofs.Members.{getD-none}
@@ -17,11 +16,11 @@ use Rattle.records.specs.Edition.{one}
 use Rattle.records.specs.Check.{units, check}
 use Rattle.records.specs.Outcome.{laid}
 use Rattle.records.specs.Record.{Rec, function, recordAt, u8At, lengthOf, headerAt, instructionAt, terminatorAt}
-use Rattle.records.specs.Program.{Function, Rest, functionOf, put, putStep, program}
+use Rattle.records.specs.Program.{Function, Rest, put, putStep, program}
 use Rattle.records.proofs.Front.{read-whole}
 use Rattle.records.proofs.ByKind.{length-one, length-none, kind-header, kind-storage, kind-function, kind-abi, kind-block, kind-instruction, kind-operand, kind-terminator, kind-target, kind-end}
 use Rattle.units.specs.Sets.{each}
-use Rattle.units.specs.Along.{from, functionFrom, Stands, StandsAt, Sound, brought}
+use Rattle.units.specs.Along.{from, functionFrom, Stands, StandsAt, brought}
 use Rattle.units.specs.declared.cursor.Cursor.{Cursor}
 use Rattle.units.proofs.Standing.{stands-start, stands-on}
 use Rattle.passes.specs.Passes.{blank, Held}
@@ -33,7 +32,7 @@ use Rattle.liveness.proofs.Onward.{kind-at, from-past, from-by, from-kind, read
 use Rattle.graph.specs.Graph.{sum, passes}
 use Rattle.graph.specs.Graphs.{lastLive}
 use Rattle.graph.specs.Gathered.{Stop, stopsOf, stops}
-use Rattle.graph.specs.Walking.{Noted, Told, Owner, Follows, FunctionTaken, Granted, FunctionNext, stopsBy, passesBy, Walked, AllTaken}
+use Rattle.graph.specs.Walking.{Noted, Told, Owner, FunctionTaken, Granted, FunctionNext, stopsBy, passesBy, Walked, AllTaken}
 use Rattle.graph.proofs.Meeting.{gathered-none, paired-none, addressed-none}
 
 -- ---- the function that stands at a cursor

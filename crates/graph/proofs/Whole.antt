@@ -1,13 +1,13 @@
 -- Once all functions are noted the buffers hold the whole program: the stops of a program are its steps, in order, so that what was noted of them is what
 -- the graph, the copies and the addressed storages are defined by.
 use mathlib.Core.Path.{_≡_, refl, sym, ap, ap₂, _∙_, subst}
-use mathlib.Core.List.{List, [], _∷_, _++_, map, map-append}
+use mathlib.Core.List.{List, [], _∷_, _++_, map-append}
 use Prim.Native.Nat.{ℕ, _≤_}
 use native.Mathlib.Omega.{arith}
 use lib.ListN.{length, replicate}
 use Rattle.records.specs.Edition.{one}
 use Rattle.records.specs.Check.{units, check}
-use Rattle.records.specs.Program.{Function, Program, program}
+use Rattle.records.specs.Program.{Function, program}
 use Rattle.units.specs.Sets.{each}
 use Rattle.units.specs.Along.{Indexed}
 use Rattle.units.proofs.Standing.{units-most}
@@ -15,7 +15,7 @@ use Rattle.passes.specs.Passes.{blank}
 use Rattle.liveness.specs.Flow.{Use, Flow, flows}
 use Rattle.liveness.specs.Settle.{settledBy}
 use Rattle.liveness.proofs.SettleLaws.{settled-outs}
-use Rattle.graph.specs.Graph.{usesOf, allUses, interferes, copied}
+use Rattle.graph.specs.Graph.{usesOf, allUses, copied}
 use Rattle.graph.specs.Graphs.{relationRows, Graphs, Outcome}
 use Rattle.graph.specs.declared.Graphed.{Graphed}
 use Rattle.graph.specs.Gathered.{Stop, stopsIn, stopsFrom, stopsOf, stops, Paired, Addressed}

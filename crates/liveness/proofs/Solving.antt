@@ -14,7 +14,7 @@ use Rattle.rows.specs.Row.{member, memberAt, row}
 use Rattle.rows.proofs.Rows.{length-row, getD-row}
 use Rattle.rows.proofs.Members.{member-row, words-row}
 use Rattle.rows.proofs.Pack.{member-pack}
-use Rattle.records.specs.Pick.{_and_, has}
+use Rattle.records.specs.Pick.{has}
 use Rattle.records.specs.Edition.{one}
 use Rattle.records.specs.Units.{numberIn}
 use Rattle.records.specs.Program.{Function, program}

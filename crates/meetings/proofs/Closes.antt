@@ -5,14 +5,14 @@ use mathlib.Core.Bool.{Bool, true, false}
 use mathlib.Core.List.{List, [], _∷_, _++_}
 use Prim.Native.Nat.{ℕ, zero, suc, _+_, _-_, _*_, _≤_, _<_}
 use native.Mathlib.Omega.{arith}
-use lib.Dec.{eqb, leb, ltb}
-use lib.ListN.{length, take, drop, length-drop}
+use lib.Dec.{eqb, ltb}
+use lib.ListN.{length, take, drop}
 use lib.Seq.{drop-drop}
-use borrow.Author.Tests.{eq-eqb, ne-eqb, leb-true}
+use borrow.Author.Tests.{eq-eqb, ne-eqb}
 use Rattle.rows.specs.Row.{memberAt, withAt, row}
 use Rattle.rows.proofs.Rows.{length-row}
 use Rattle.records.specs.Pick.{pick, pick-yes, pick-no, _and_}
-use Rattle.records.specs.Record.{Storage, u8At, u16At, storageIn}
+use Rattle.records.specs.Record.{Storage, u16At, storageIn}
 use Rattle.storages.specs.File.{opensStorage, storagesBy, declared}
 use Rattle.storages.proofs.Declared.{opens-inside}
 use Rattle.units.specs.Sets.{each}

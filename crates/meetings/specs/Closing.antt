@@ -1,6 +1,5 @@
 -- The graph in its buffer: what the rows of meetings and the addressed storages come to. Document 01, "Liveness and interference". Row i of the graph
 -- stands at 4 i. The laws of proofs/Closing.antt say that this is the graph of specs/Graph.antt.
-use mathlib.Core.Bool.{Bool}
 use mathlib.Core.List.{List, [], _∷_, _++_}
 use Prim.Native.Nat.{ℕ, zero, suc, _*_}
 use lib.Dec.{eqb, ltb}

@@ -7,12 +7,12 @@ use Prim.Native.Nat.{ℕ, zero, suc, _+_, _≤_, _<_}
 use native.Mathlib.Omega.{arith}
 use native.Mathlib.Nat.{not-suc-le-zero}
 use native.Mathlib.Decide.{ℕ-discrete, decLt, map-dec}
-use lib.Dec.{T, ltb, eqb}
-use lib.ListN.{length, getD}
+use lib.Dec.{T, eqb}
+use lib.ListN.{length}
 use Rattle.rows.proofs.Tests.{antisym}
 use Rattle.records.specs.Pick.{pick}
-use Rattle.passes.specs.Live.{Row, Step, Block, State, empty, block, put, union, backwards, visit, sweep, pass, after, Settled, Reads, reads-here, goes-on, jumps, ReadsFrom, ReadsAfter}
-use Rattle.passes.proofs.Laws.{after-sound, state-ext, settles, settles-within, put-cases, after-ins, after-outs, visit-same}
+use Rattle.passes.specs.Live.{Row, Step, Block, State, empty, block, put, union, backwards, visit, sweep, pass, after, Settled, Reads, reads-here, goes-on, jumps, ReadsFrom}
+use Rattle.passes.proofs.Laws.{after-sound, state-ext, settles, settles-within, after-ins, after-outs, visit-same}
 
 -- (c) A block's steps as ONE step: what it reads before writing, and what it writes -------------------------------------------------------
 

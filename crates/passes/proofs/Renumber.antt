@@ -1,13 +1,13 @@
 -- Units do not meet: what the passes do to one unit depends on that unit's reads and writes alone. So the pass count depends only on which such
 -- views of the function there are, and not on how units are numbered (Req 14). Assumes nothing.
-use mathlib.Core.Path.{_≡_, refl, sym, ap, ap₂, _∙_, subst}
+use mathlib.Core.Path.{_≡_, refl, sym, ap, ap₂, _∙_}
 use mathlib.Core.Bool.{Bool, true, false, not, _&&_, _||_}
 use mathlib.Core.List.{List, [], _∷_, map}
-use Prim.Native.Nat.{ℕ, zero, suc, _+_, _≤_, _<_}
-use lib.Dec.{T, ltb, eqb}
-use lib.ListN.{length, getD, length-map, List·getD-map}
+use Prim.Native.Nat.{ℕ, zero, suc}
+use lib.Dec.{ltb, eqb}
+use lib.ListN.{length, length-map, List·getD-map}
 use Rattle.records.specs.Pick.{pick}
-use Rattle.passes.specs.Live.{Row, Step, Block, State, empty, noBlock, block, put, union, backwards, visit, sweep, pass, after, Settled}
+use Rattle.passes.specs.Live.{Row, Step, Block, State, noBlock, block, put, union, backwards, visit, sweep, pass, after, Settled}
 use Rattle.passes.proofs.Laws.{state-ext, settled-unique}
 
 -- The function as unit u sees it: of each step, whether it reads u and whether it writes u.

@@ -1,8 +1,7 @@
 // Room in the two memories: whether it is clear, and the taking of it.
 ghost use mathlib.Core.Path.{_≡_};
-ghost use Prim.Native.Nat.{_≤_, _<_};
 ghost use lib.ListN.{length};
-ghost use Rattle.places.specs.Memory.{clearRoom, reserve, mapOf};
+ghost use Rattle.places.specs.Memory.{clearRoom, reserve};
 ghost use Rattle.places.specs.Legal.{Small, Inside};
 use maps::clear_bit;
 use maps::clear_bytes;

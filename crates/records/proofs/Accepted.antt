@@ -1,29 +1,29 @@
 -- What check accepted, as facts of the program and of the unit words that it answers: `accepted`. The later crates cite this law alone.
 -- Assumes nothing.
 use mathlib.Core.Path.{_≡_, refl, sym, ap, _∙_}
-use mathlib.Core.Logic.{_⊎_, inl, inr}
-use mathlib.Core.Bool.{Bool, true, false, true≢false}
-use mathlib.Core.List.{List, [], _∷_, _++_, map}
-use Prim.Native.Nat.{ℕ, zero, suc, _+_, _≤_, _<_}
+use mathlib.Core.Logic.{inl, inr}
+use mathlib.Core.Bool.{Bool, true, false}
+use mathlib.Core.List.{List, [], _∷_}
+use Prim.Native.Nat.{ℕ, suc, _≤_, _<_}
 use native.Mathlib.Omega.{arith}
-use lib.Dec.{ltb, leb, eqb}
-use lib.ListN.{length, drop, length-append, length-map}
+use lib.Dec.{ltb, eqb}
+use lib.ListN.{length, length-append, length-map}
 use borrow.Author.Tests.{ltb-false, eqb-true}
-use Rattle.records.specs.Pick.{pick, has, times, All}
+use Rattle.records.specs.Pick.{pick, All}
 use Rattle.records.specs.Edition.{Edition}
 use Rattle.records.specs.declared.Refusal.{Refusal}
 use Rattle.records.specs.declared.Refusal.the-variants.{Form, Limit}
-use Rattle.records.specs.Record.{Storage, Abi, Operand, Rec, header, storage, function, abi, block, instruction, operand, terminator, target, end, Read, whole, read, headerFits, storageFits}
-use Rattle.records.specs.Step.{State, start, Turn, next, refused, atStart, inStorages, inAbi, atEnd}
-use Rattle.records.specs.Check.{scan, Answer, units, refusal, closed, check, records}
+use Rattle.records.specs.Record.{Storage, Rec, header, storage, function, abi, block, instruction, operand, terminator, target, end, headerFits, storageFits}
+use Rattle.records.specs.Step.{State, start, Turn, next, refused, inAbi, atEnd}
+use Rattle.records.specs.Check.{scan, units, refusal, closed, check, records}
 use Rattle.records.specs.Program.{Function, Program, gather, program}
 use Rattle.records.proofs.Scan.{Walk, done, more, walk, Cut, walk-cut}
-use Rattle.records.proofs.Took.{Took, stepped}
+use Rattle.records.proofs.Took.{stepped}
 use Rattle.records.proofs.Range.{Distinct, Sound, start-sound, walk-range}
 use Rattle.records.proofs.Contents.{FunctionIn, gather-in}
 use Rattle.records.proofs.Stages.{Calm, start-calm, Passed, passed, calm-on}
 use Rattle.records.proofs.Pigeons.{distinct-most}
-use Rattle.records.proofs.Shape.{numbersAfter, Lists, lists, idsOf, numbersOf, BlocksFit, walk-ids, walk-numbers, walk-blocks}
+use Rattle.records.proofs.Shape.{numbersAfter, lists, idsOf, numbersOf, BlocksFit, walk-ids, walk-numbers, walk-blocks}
 use Rattle.records.proofs.Formed.{FunctionFormed, walk-formed}
 
 -- the reader came to the end

@@ -1,6 +1,6 @@
 -- The program, along a walk: `rest`, what is gathered from a tail, one record at a time; `gather-in`: its storages are declared and its units numbered.
 -- Assumes nothing.
-use mathlib.Core.Path.{_≡_, refl}
+use mathlib.Core.Path.{_≡_}
 use mathlib.Core.Logic.{_⊎_}
 use mathlib.Core.Bool.{true}
 use mathlib.Core.List.{List, [], _∷_}
@@ -9,7 +9,7 @@ use lib.Dec.{eqb}
 use lib.ListN.{drop}
 use Rattle.records.specs.Pick.{has, All}
 use Rattle.records.specs.Edition.{Edition}
-use Rattle.records.specs.Record.{Storage, Abi, Operand, Rec, header, storage, function, abi, block, instruction, operand, terminator, target, end, Read, whole, read}
+use Rattle.records.specs.Record.{Storage, Abi, Operand, Rec, header, storage, function, abi, block, instruction, operand, terminator, target, end, whole, read}
 use Rattle.records.specs.Check.{records}
 use Rattle.records.specs.Program.{Step, Block, Function, Rest, empty, putStep, put, gather}
 use Rattle.records.proofs.Scan.{records-nil, records-whole}

@@ -1,7 +1,7 @@
 -- For the code that will keep numbers where the definitions keep a list: the field of the last operand, how many operands it has, and how many
 -- are missing. `count-at`, `missing-more`: how they go on with one operand. Assumes nothing.
-use mathlib.Core.Path.{_≡_, refl, sym, ap, _∙_}
-use mathlib.Core.Bool.{Bool, true, false, true≢false}
+use mathlib.Core.Path.{_≡_, refl, ap}
+use mathlib.Core.Bool.{Bool, true, false}
 use mathlib.Core.List.{List, [], _∷_}
 use Prim.Native.Nat.{ℕ, zero, suc, _+_, _≤_, _<_}
 use native.Mathlib.Omega.{arith}
@@ -12,7 +12,7 @@ use borrow.Author.Tests.{ltb-true, ltb-false, leb-true, eqb-true, eqb-false, eq-
 use mathlib.Core.Logic.{_⊎_, inl, inr}
 use Rattle.records.specs.Pick.{pick, _and_, times}
 use Rattle.records.specs.Edition.{Edition}
-use Rattle.records.specs.Record.{Storage, Abi, Operand, Rec, header, storage, function, abi, block, instruction, operand, terminator, target, end}
+use Rattle.records.specs.Record.{Operand, Rec, header, storage, function, abi, block, instruction, operand, terminator, target, end}
 use Rattle.records.specs.Mirror.{Rising, seen}
 use Rattle.records.proofs.Front.{and-both, pick-same}
 use Rattle.records.proofs.Took.{Named, Took, unnamed, givenTo}

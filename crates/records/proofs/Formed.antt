@@ -2,24 +2,24 @@
 -- each block is instructions and then one terminator, ABI entries, storages and header are in their ranges. Assumes nothing.
 use mathlib.Core.Path.{_≡_, refl, sym, ap, _∙_}
 use mathlib.Core.Logic.{_⊎_, inl, inr}
-use mathlib.Core.Bool.{Bool, true, false, true≢false}
-use mathlib.Core.List.{List, [], _∷_, _++_}
-use Prim.Native.Nat.{ℕ, zero, suc, _+_, _≤_, _<_}
+use mathlib.Core.Bool.{true, false}
+use mathlib.Core.List.{List, [], _∷_}
+use Prim.Native.Nat.{ℕ, _+_, _≤_, _<_}
 use native.Mathlib.Omega.{arith}
-use lib.Dec.{ltb, leb, eqb}
+use lib.Dec.{eqb}
 use lib.ListN.{length, drop}
 use borrow.Author.Tests.{ltb-true, leb-true, eqb-true}
-use Rattle.records.specs.Pick.{pick, _and_, _or_, All}
+use Rattle.records.specs.Pick.{pick, _or_, All}
 use Rattle.records.specs.Edition.{Edition}
-use Rattle.records.specs.Fields.{Field, fieldsOf, endFieldsOf, leastTargets, mostTargets, instructionFits, terminatorFits, missing}
-use Rattle.records.specs.Record.{Storage, Abi, Operand, Rec, header, storage, function, abi, block, instruction, operand, terminator, target, end, Read, whole, read, headerFits, storageFits, abiFits}
-use Rattle.records.specs.Step.{Opened, nothing, State, start, next, withHeader, withStorage, withFunction, withBlock, withOpened, withNumber, withUnit, opened, withGiven, withTarget, atStart, inStorages, inAbi, inBlock, afterBlock, atEnd, operandFits, finished}
-use Rattle.records.specs.Program.{Step, rowOf, rowBy, leastBy, mostBy, numbersFit, Block, Function, Rest, empty, stepOf, blockOf, functionOf, putStep, put}
+use Rattle.records.specs.Fields.{Field, missing}
+use Rattle.records.specs.Record.{Abi, Operand, Rec, header, storage, function, abi, block, instruction, operand, terminator, target, end, headerFits, storageFits, abiFits}
+use Rattle.records.specs.Step.{Opened, nothing, State, withHeader, withStorage, withFunction, withBlock, withOpened, withNumber, withUnit, opened, withGiven, withTarget, atStart, inStorages, inAbi, inBlock, afterBlock, atEnd, operandFits, finished}
+use Rattle.records.specs.Program.{Step, rowOf, leastBy, mostBy, numbersFit, Block, Function, Rest, empty, putStep, put}
 use Rattle.records.proofs.Front.{and-both}
 use Rattle.records.proofs.Scan.{Walk, done, more}
 use Rattle.records.proofs.Took.{Named, Took, Stepped, stepped, unnamed, givenTo}
 use Rattle.records.proofs.Contents.{rest, rest-nil, rest-whole}
-use Rattle.records.proofs.Stages.{Inside, Calm, Passed, passed, calm-on}
+use Rattle.records.proofs.Stages.{Calm, passed, calm-on}
 
 -- the fields that are given once these operands are, the last one first
 abbrev pub gives : List ℕ → List Operand → List ℕ

@@ -3,16 +3,16 @@
 use mathlib.Core.Path.{_≡_, refl, sym, ap, ap₂, _∙_}
 use mathlib.Core.Logic.{_⊎_, inl, inr}
 use mathlib.Core.Bool.{Bool, true, false, true≢false, _&&_, _||_}
-use mathlib.Core.List.{List, [], _∷_, _++_}
-use Prim.Native.Nat.{ℕ, zero, suc, _+_, _*_, _≤_, _<_}
+use mathlib.Core.List.{List, _++_}
+use Prim.Native.Nat.{ℕ, _+_, _≤_, _<_}
 use native.Mathlib.Omega.{arith}
-use lib.Dec.{ltb, leb, eqb}
-use lib.ListN.{length, getD, take, drop, length-append, List·getD-append}
+use lib.Dec.{eqb}
+use lib.ListN.{length, getD, take, length-append, List·getD-append}
 use lib.Seq.{getD-take, length-take-le}
-use borrow.Author.Tests.{ltb-true, leb-true, eqb-true, lt-ltb, le-leb}
+use borrow.Author.Tests.{ltb-true, leb-true, eqb-true}
 use Rattle.records.specs.Pick.{pick, pick-yes, pick-no, _and_, _or_, tests}
 use Rattle.records.specs.Edition.{Edition}
-use Rattle.records.specs.Record.{Rec, storage, function, abi, block, operand, target, end, Read, whole, fault, u8At, u16At, lengths, lengthOf, headerAt, storageIn, abiIn, operandIn, instructionAt, terminatorAt, recordAt, present, read}
+use Rattle.records.specs.Record.{Rec, storage, function, abi, block, operand, target, whole, fault, u8At, u16At, lengths, lengthOf, headerAt, storageIn, abiIn, operandIn, instructionAt, terminatorAt, recordAt, present, read}
 
 -- Tests taken apart -----------------------------------------------------------------------------------------------------------------------
 

@@ -1,15 +1,15 @@
 -- For the code that will read a file. `Going`: what its loop over the records keeps: what is left comes to `w`, what the whole comes to.
 -- `append-step`: a writer's next record is one step. Assumes nothing.
 use mathlib.Core.Path.{_≡_, refl, sym, ap, _∙_}
-use mathlib.Core.List.{List, [], _∷_, _++_}
-use Prim.Native.Nat.{ℕ, zero, suc, _+_, _≤_, _<_}
+use mathlib.Core.List.{List, [], _++_}
+use Prim.Native.Nat.{ℕ, _+_, _≤_, _<_}
 use native.Mathlib.Omega.{arith}
 use lib.ListN.{length, drop, length-drop, drop-of-length-le}
 use lib.Seq.{drop-drop}
 use Rattle.records.specs.Edition.{Edition}
 use Rattle.records.specs.declared.Refusal.{Refusal}
 use Rattle.records.specs.declared.Refusal.the-variants.{Form}
-use Rattle.records.specs.Record.{Rec, Read, whole, fault, read}
+use Rattle.records.specs.Record.{Rec, whole, fault, read}
 use Rattle.records.specs.Step.{State, start, Turn, next, refused, step}
 use Rattle.records.specs.Check.{scan}
 use Rattle.records.proofs.Front.{read-whole}

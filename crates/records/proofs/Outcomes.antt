@@ -1,12 +1,12 @@
 -- Laws of the outcome of check: the buffer keeps its length, its first words are the units, by number. Assumes nothing.
 use mathlib.Core.Path.{_≡_, refl, sym, ap, _∙_}
 use mathlib.Core.Bool.{Bool, true, false}
-use mathlib.Core.List.{List, [], _∷_, _++_, append-nil, append-assoc}
-use Prim.Native.Nat.{ℕ, _+_, _-_, _≤_, _<_, min}
+use mathlib.Core.List.{List, [], _++_, append-nil, append-assoc}
+use Prim.Native.Nat.{ℕ, _+_, _-_, _≤_, _<_}
 use native.Mathlib.Omega.{arith}
 use lib.Dec.{ltb}
 use borrow.Author.Fill.{fill-more}
-use lib.ListN.{set, drop-of-length-le, length, getD, drop, replicate, length-append, length-drop, length-replicate, List·getD-append}
+use lib.ListN.{set, drop-of-length-le, length, drop, replicate, length-append, length-drop, length-replicate}
 use borrow.Author.Tests.{ltb-false, le-ltb, lt-ltb}
 use Rattle.records.specs.Pick.{pick, pick-yes, pick-no}
 use Rattle.records.specs.Edition.{Edition, one}
@@ -17,7 +17,7 @@ use Rattle.records.specs.Outcome.{Outcome, laid, outcomeBy, outcome, Che
 use Rattle.records.specs.Mirror.{Walked}
 use Rattle.records.specs.declared.Checked.{Checked}
 use Rattle.records.specs.declared.Checked.the-variants.{Units, Refused}
-use Rattle.records.proofs.Accepted.{Good, accepted}
+use Rattle.records.proofs.Accepted.{accepted}
 
 pub laid-length : (n : ℕ) (us before : List ℕ) → length us ≤ n → n ≤ length before → length (laid n us before) ≡ length before
 unfolding laid

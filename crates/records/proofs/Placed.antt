@@ -1,21 +1,20 @@
 -- LAW. A step that is found at a place stands in the program: what holds of every step of every function holds of it.
 -- Assumes nothing.
-use mathlib.Core.Path.{_≡_, refl, sym, ap, _∙_}
-use mathlib.Core.Logic.{_⊎_, inl, inr}
+use mathlib.Core.Path.{_≡_, sym, ap, _∙_}
 use mathlib.Core.Bool.{Bool, true, false}
-use mathlib.Core.List.{List, [], _∷_}
-use Prim.Native.Nat.{ℕ, zero, suc, _+_, _≤_, _<_}
+use mathlib.Core.List.{List, []}
+use Prim.Native.Nat.{ℕ, _+_}
 use native.Mathlib.Omega.{arith}
 use lib.Dec.{eqb}
 use lib.ListN.{length, take, drop}
 use lib.Seq.{length-take-le}
 use Rattle.records.specs.Pick.{pick, All}
 use Rattle.records.specs.Edition.{Edition}
-use Rattle.records.specs.Record.{Rec, header, storage, function, abi, block, instruction, operand, terminator, target, end, Read, whole, read, recordAt}
-use Rattle.records.specs.Step.{State, start, next, atStart, inStorages, inAbi, inBlock, afterBlock, atEnd}
-use Rattle.records.specs.Check.{Answer, units, check, pieces, recordsIn, records}
-use Rattle.records.specs.Program.{Step, Block, Function, Rest, putStep, put, gather, program}
-use Rattle.records.specs.Place.{Found, step, nowhere, noFunction, within, startsWith, findIn, stepAt}
+use Rattle.records.specs.Record.{Rec, header, storage, function, abi, block, instruction, operand, terminator, target, end, whole, read, recordAt}
+use Rattle.records.specs.Step.{State, start, atEnd}
+use Rattle.records.specs.Check.{units, check, pieces, records}
+use Rattle.records.specs.Program.{Step, Block, Function, Rest, putStep, put, program}
+use Rattle.records.specs.Place.{step, noFunction, within, startsWith, findIn, stepAt}
 use Rattle.records.proofs.Front.{read-whole, read-take}
 use Rattle.records.proofs.Scan.{Walk, done, more, walk, pieces-nil, pieces-whole}
 use Rattle.records.proofs.Took.{stepped}

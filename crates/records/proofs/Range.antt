@@ -1,22 +1,22 @@
 -- LAW 2. What the checker accepts is in range. `Sound`: the reader's lists are within the limits and hold nothing twice. `InRange`: a record's
 -- storage is declared and its unit word is numbered. `walk-range`: both, along the whole of a file. Assumes nothing.
-use mathlib.Core.Path.{_≡_, refl, sym, ap, _∙_, subst}
+use mathlib.Core.Path.{_≡_, refl, sym, _∙_}
 use mathlib.Core.Logic.{_⊎_, inl, inr}
 use mathlib.Core.Bool.{Bool, true, false, true≢false}
 use mathlib.Core.List.{List, [], _∷_, _++_}
-use Prim.Native.Nat.{ℕ, zero, suc, _+_, _≤_, _<_}
+use Prim.Native.Nat.{ℕ, suc, _+_, _≤_}
 use native.Mathlib.Omega.{arith}
-use lib.Dec.{ltb, leb, eqb}
-use lib.ListN.{length, getD, length-append}
+use lib.Dec.{ltb, eqb}
+use lib.ListN.{length, length-append}
 use borrow.Author.Tests.{ltb-true, leb-true, eqb-true, eqb-false, eq-eqb, ne-eqb}
-use Rattle.records.specs.Pick.{pick, pick-yes, pick-no, _and_, _or_, has, All}
+use Rattle.records.specs.Pick.{pick, _or_, has, All}
 use Rattle.records.specs.Edition.{Edition}
-use Rattle.records.specs.Record.{Storage, Abi, Operand, Rec, header, storage, function, abi, block, instruction, operand, terminator, target, end, storageFits, wordOf, Read, whole, read}
+use Rattle.records.specs.Record.{Storage, Operand, Rec, header, storage, function, abi, block, instruction, operand, terminator, target, end, storageFits, wordOf}
 use Rattle.records.specs.Units.{noted}
-use Rattle.records.specs.Step.{Opened, State, start, Turn, next, withHeader, withStorage, withFunction, withBlock, withOpened, withNumber, withUnit, step}
-use Rattle.records.specs.Check.{records, scan}
+use Rattle.records.specs.Step.{Opened, State, start, withHeader, withStorage, withFunction, withBlock, withOpened, withNumber, withUnit}
+use Rattle.records.specs.Check.{records}
 use Rattle.records.proofs.Front.{and-both, or-cases}
-use Rattle.records.proofs.Scan.{Walk, done, more, walk, records-nil, records-whole}
+use Rattle.records.proofs.Scan.{Walk, done, more, records-nil, records-whole}
 use Rattle.records.proofs.Took.{Named, Took, stepped, unnamed, givenTo}
 
 -- Lists of numbers -------------------------------------------------------------------------------------------------------------------------

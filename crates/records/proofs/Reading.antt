@@ -9,20 +9,19 @@ use native.Mathlib.Omega.{arith}
 use native.Mathlib.Nat.{le-trans, lt-of-not-le}
 use native.Mathlib.Decide.{decLe}
 use lib.Dec.{ltb, leb, eqb}
-use lib.ListN.{length, getD, take, drop, replicate, length-append, length-drop, length-replicate}
+use lib.ListN.{length, getD, drop, replicate, length-append, length-drop, length-replicate}
 use borrow.Author.Tests.{ltb-true, eqb-true, eq-eqb, ne-eqb, le-ltb, lt-leb}
-use Rattle.rows.specs.Row.{pack}
 use Rattle.rows.proofs.Pack.{length-pack, pack-none}
-use Rattle.records.specs.Pick.{pick, pick-yes, pick-no, tests, _and_, has, times}
-use Rattle.records.specs.Edition.{Edition, one}
-use Rattle.records.specs.Fields.{Field, Count, noField, lacks, missing, most}
-use Rattle.records.specs.Record.{Storage, Abi, Operand, Rec, header, storage, function, abi, block, instruction, operand, terminator, target, end, Read, whole, fault, u8At, lengthOf, lengths, headerAt, instructionAt, terminatorAt, recordAt, present, read}
-use Rattle.records.specs.Step.{Opened, State, start, Turn, next, refused, withHeader, withStorage, withFunction, withBlock, withOpened, withNumber, withUnit, opened, withGiven, withTarget, lastField, fieldAt, operandFits, step, atEnd}
-use Rattle.records.specs.Check.{scan, Answer, units, refusal, closed, check, numbersAfter, numbers as numbersIn}
+use Rattle.records.specs.Pick.{pick, pick-yes, pick-no, _and_, has, times}
+use Rattle.records.specs.Edition.{one}
+use Rattle.records.specs.Fields.{Field, Count, lacks, missing, most}
+use Rattle.records.specs.Record.{Operand, Rec, header, storage, function, abi, block, instruction, operand, terminator, target, end, whole, fault, u8At, lengthOf, lengths, headerAt, instructionAt, terminatorAt, recordAt, present, read}
+use Rattle.records.specs.Step.{State, start, Turn, next, refused, withHeader, withStorage, withFunction, withBlock, withOpened, withNumber, withUnit, opened, withGiven, withTarget, fieldAt, operandFits, step, atEnd}
+use Rattle.records.specs.Check.{scan, units, closed, check, numbers as numbersIn}
 use Rattle.records.specs.Outcome.{laid}
-use Rattle.records.specs.Mirror.{Rising, seen, readerOf, Kept, Low, Chained, Holds, Sane, Comes, Walked, bucketOf}
+use Rattle.records.specs.Mirror.{Rising, seen, readerOf, Kept, Holds, Sane, Comes, Walked}
 use Rattle.records.specs.declared.Refusal.{Refusal}
-use Rattle.records.specs.declared.Refusal.the-variants.{Form, Limit}
+use Rattle.records.specs.declared.Refusal.the-variants.{Form}
 use Rattle.records.specs.declared.Checked.{Checked}
 use Rattle.records.specs.declared.Checked.the-variants as checked
 use Rattle.records.specs.declared.reader.Reader.{Reader}

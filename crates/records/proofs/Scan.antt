@@ -2,10 +2,9 @@
 -- `Walk`: the records that were taken, as a value to recur on; `walked`, `walk`: a scan that reaches the end of the tail is one.
 -- `prefix`: what is scanned first and what is scanned after it. `pieces-all`, `records-walk`, `gather-walk`: the records make up the file.
 -- Assumes nothing.
-use mathlib.Core.Path.{_≡_, refl, sym, ap, ap₂, _∙_}
-use mathlib.Core.Bool.{Bool, true, false}
+use mathlib.Core.Path.{_≡_, refl, sym, ap, _∙_}
 use mathlib.Core.List.{List, [], _∷_, _++_, append-assoc}
-use Prim.Native.Nat.{ℕ, zero, suc, _+_, _-_, _≤_, _<_}
+use Prim.Native.Nat.{ℕ, zero, suc, _+_, _≤_, _<_}
 use native.Mathlib.Nat.{not-suc-le-zero}
 use native.Mathlib.Omega.{arith}
 use lib.ListN.{length, take, drop, length-append, length-drop, take-append-drop}
@@ -14,7 +13,7 @@ use Rattle.records.specs.Pick.{All}
 use Rattle.records.specs.Edition.{Edition}
 use Rattle.records.specs.declared.Refusal.{Refusal}
 use Rattle.records.specs.declared.Refusal.the-variants.{Form}
-use Rattle.records.specs.Record.{Rec, Read, whole, fault, read, recordAt}
+use Rattle.records.specs.Record.{Rec, Read, whole, fault, read}
 use Rattle.records.specs.Step.{State, Turn, next, refused, step}
 use Rattle.records.specs.Check.{atTail, byTurn, byRead, scanBy, scan, byPiece, piecesBy, pieces, recordsIn, records, placesIn}
 use Rattle.records.proofs.Front.{Whole, read-whole, read-append, read-take}

@@ -2,22 +2,22 @@
 -- `walk-blocks`: each function's blocks are within the limit, and no id stands twice. Assumes nothing.
 use mathlib.Core.Path.{_≡_, refl, sym, ap, _∙_}
 use mathlib.Core.Logic.{_⊎_, inl, inr}
-use mathlib.Core.Bool.{Bool, true, false}
+use mathlib.Core.Bool.{true}
 use mathlib.Core.List.{List, [], _∷_, _++_, map, append-assoc, append-nil}
-use Prim.Native.Nat.{ℕ, zero, suc, _+_, _≤_, _<_}
+use Prim.Native.Nat.{ℕ, _+_, _≤_}
 use native.Mathlib.Omega.{arith}
 use lib.Dec.{eqb}
 use lib.ListN.{length, drop, length-append}
 use Rattle.records.specs.Edition.{Edition}
-use Rattle.records.specs.Record.{Storage, Abi, Operand, Rec, header, storage, function, abi, block, instruction, operand, terminator, target, end, Read, whole, read}
-use Rattle.records.specs.Step.{State, next, withHeader, withStorage, withFunction, withBlock, withOpened, withNumber, withUnit, atStart, inStorages, inAbi, inBlock, afterBlock, atEnd}
-use Rattle.records.specs.Program.{Step, Block, Function, Rest, empty, blockOf, functionOf, putStep, put}
+use Rattle.records.specs.Record.{Storage, Rec, header, storage, function, abi, block, instruction, operand, terminator, target, end}
+use Rattle.records.specs.Step.{State, withHeader, withStorage, withFunction, withBlock, withOpened, withNumber, withUnit, inAbi, atEnd}
+use Rattle.records.specs.Program.{Step, Block, Function, Rest, empty, putStep, put}
 use Rattle.records.specs.Pick.{All}
 use Rattle.records.proofs.Scan.{Walk, done, more}
-use Rattle.records.proofs.Took.{Named, Took, Stepped, stepped, unnamed, givenTo}
+use Rattle.records.proofs.Took.{Named, Took, stepped, unnamed, givenTo}
 use Rattle.records.proofs.Range.{Distinct, Sound, kept}
 use Rattle.records.proofs.Contents.{rest, rest-nil, rest-whole}
-use Rattle.records.proofs.Stages.{Inside, Calm, Passed, passed, calm-on, nothing-after}
+use Rattle.records.proofs.Stages.{Calm, Passed, passed, calm-on, nothing-after}
 
 abbrev pub idsOf : List Storage → List ℕ
 idsOf xs = map (λ x. x .id) xs

@@ -2,23 +2,21 @@
 -- `walk-ids`, `walk-numbers`: the program's storages and functions are those that the reader lists. Assumes nothing.
 use mathlib.Core.Path.{_≡_, refl, sym, ap, _∙_}
 use mathlib.Core.Logic.{_⊎_, inl, inr}
-use mathlib.Core.Bool.{Bool, true, false, true≢false}
-use mathlib.Core.List.{List, [], _∷_, _++_, map, append-assoc, append-nil}
-use Prim.Native.Nat.{ℕ, zero, suc, _+_, _≤_, _<_}
+use mathlib.Core.Bool.{true, false, true≢false}
+use mathlib.Core.List.{List, []}
+use Prim.Native.Nat.{ℕ, _≤_, _<_}
 use native.Mathlib.Omega.{arith}
 use native.Mathlib.Decide.{decLe}
-use lib.Dec.{ltb, leb, eqb}
-use lib.ListN.{length, getD, drop}
+use lib.Dec.{ltb, eqb}
 use borrow.Author.Tests.{ltb-true, eqb-true}
-use Rattle.records.specs.Pick.{pick, _and_, _or_, times}
+use Rattle.records.specs.Pick.{_or_, times}
 use Rattle.records.specs.Edition.{Edition}
-use Rattle.records.specs.Record.{Storage, Abi, Operand, Rec, header, storage, function, abi, block, instruction, operand, terminator, target, end, Read, whole, read}
-use Rattle.records.specs.Step.{Opened, nothing, State, start, next, withHeader, withStorage, withFunction, withBlock, withOpened, withNumber, withUnit, atStart, inStorages, inAbi, inBlock, afterBlock, atEnd, operandFits, lastField}
-use Rattle.records.specs.Program.{Step, Block, Function, Rest, empty, putStep, put}
+use Rattle.records.specs.Record.{Operand, Rec, header, storage, function, abi, block, instruction, operand, terminator, target, end}
+use Rattle.records.specs.Step.{nothing, State, start, withHeader, withStorage, withFunction, withBlock, withOpened, withNumber, withUnit, atStart, inStorages, inAbi, inBlock, afterBlock, atEnd, operandFits, lastField}
+use Rattle.records.specs.Program.{Step}
 use Rattle.records.proofs.Front.{and-both, or-cases}
 use Rattle.records.proofs.Scan.{Walk, done, more}
-use Rattle.records.proofs.Took.{Named, Took, Stepped, stepped, unnamed, givenTo}
-use Rattle.records.proofs.Contents.{rest, rest-nil, rest-whole}
+use Rattle.records.proofs.Took.{Named, Took, stepped, unnamed, givenTo}
 
 -- in a block, or after its terminator
 abbrev pub Inside : ℕ → Type 0

@@ -1,21 +1,19 @@
 -- What a record that was taken has met, and the state after it, kind by kind: the one law that takes a step apart.
 -- Assumes nothing.
-use mathlib.Core.Path.{_≡_, refl, sym, ap, _∙_}
+use mathlib.Core.Path.{_≡_, refl}
 use mathlib.Core.Logic.{_⊎_, inl, inr}
-use mathlib.Core.Bool.{Bool, true, false, true≢false}
-use mathlib.Core.List.{List, [], _∷_, _++_}
-use Prim.Native.Nat.{ℕ, zero, suc, _+_, _≤_, _<_}
+use mathlib.Core.Bool.{Bool, true, false}
+use Prim.Native.Nat.{ℕ}
 use native.Mathlib.Omega.{arith}
-use lib.Dec.{ltb, leb, eqb}
-use lib.ListN.{length, getD}
-use Rattle.records.specs.Pick.{pick, _and_, _or_, has, times}
+use lib.Dec.{ltb, eqb}
+use lib.ListN.{length}
+use Rattle.records.specs.Pick.{pick, _and_, _or_, has}
 use Rattle.records.specs.Edition.{Edition}
 use Rattle.records.specs.declared.Refusal.{Refusal}
-use Rattle.records.specs.declared.Refusal.the-variants.{Form, Repeated, Undeclared, Limit}
 use Rattle.records.specs.Fields.{fieldsOf, endFieldsOf, leastTargets, mostTargets, instructionFits, terminatorFits}
-use Rattle.records.specs.Record.{Storage, Abi, Operand, Rec, header, storage, function, abi, block, instruction, operand, terminator, target, end, headerFits, storageFits, abiFits, wordOf}
-use Rattle.records.specs.Units.{noted, noUnit}
-use Rattle.records.specs.Step.{Opened, nothing, State, Turn, next, refused, need, atStart, inStorages, inAbi, inBlock, afterBlock, atEnd, withHeader, withStorage, withFunction, withBlock, withOpened, withNumber, withUnit, opened, withGiven, withTarget, wordStep, unitStep, finished, operandFits, operandStep, follows, fits, admit, take, belongs, leaves, step}
+use Rattle.records.specs.Record.{Operand, Rec, header, storage, function, abi, block, instruction, operand, terminator, target, end, headerFits, storageFits, abiFits, wordOf}
+use Rattle.records.specs.Units.{noUnit}
+use Rattle.records.specs.Step.{nothing, State, Turn, next, refused, need, atStart, inStorages, inAbi, inBlock, afterBlock, atEnd, withHeader, withStorage, withFunction, withBlock, withOpened, withNumber, withUnit, opened, withGiven, withTarget, wordStep, unitStep, finished, operandFits, operandStep, admit, take, belongs, leaves, step}
 
 -- a test that was passed, and one that was not met
 pub need-next : (t : Bool) (x : Refusal) (k : Turn) (s : State) → need t x k ≡ next s → (t ≡ true) × (k ≡ next s)

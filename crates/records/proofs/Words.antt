@@ -1,12 +1,12 @@
 -- Unit words: shape, storage and offset can be read back off one (edition one), it fits 32 bits, and two units of one word are one unit.
 -- Assumes nothing.
-use mathlib.Core.Path.{_≡_, refl, sym, ap, _∙_}
+use mathlib.Core.Path.{_≡_}
 use mathlib.Core.List.{List}
-use Prim.Native.Nat.{ℕ, _+_, _*_, _/_, _%_, _≤_, _<_}
+use Prim.Native.Nat.{ℕ, _+_, _/_, _%_, _<_}
 use native.Mathlib.Omega.{arith}
 use lib.ListN.{getD}
-use Rattle.records.specs.Edition.{Edition, one}
-use Rattle.records.specs.Record.{u8At, u16At, wordOf}
+use Rattle.records.specs.Edition.{one}
+use Rattle.records.specs.Record.{u16At, wordOf}
 
 -- the parts of a word
 unfoldable pub shapeIn : ℕ → ℕ

@@ -1,8 +1,7 @@
 -- Document 01, "The program file" and "Refusal numbers": the whole file, record by record from the front.
 use Prim.Native.Nat.{ℕ, zero, suc, _+_}
-use mathlib.Core.Bool.{Bool, true, false}
 use mathlib.Core.List.{List, [], _∷_}
-use lib.Dec.{ltb, leb, eqb}
+use lib.Dec.{ltb, eqb}
 use lib.ListN.{length, take as takeN, drop}
 use Rattle.records.specs.Pick.{pick}
 use Rattle.records.specs.Edition.{Edition}

@@ -1,13 +1,12 @@
 -- How the code's numbers and lent words stand for the reader's state. Contracts of the functions inside this crate cite it; no public contract does.
 use mathlib.Core.Path.{_≡_}
-use mathlib.Core.Bool.{Bool, true, false}
-use mathlib.Core.List.{List, [], _∷_, _++_}
+use mathlib.Core.Bool.{true}
+use mathlib.Core.List.{List, [], _∷_}
 use Prim.Native.Nat.{ℕ, suc, _+_, _*_, _/_, _%_, _≤_, _<_}
-use lib.ListN.{length, getD, take, drop}
+use lib.ListN.{length, getD, take}
 use Rattle.rows.specs.Row.{pack}
-use Rattle.records.specs.Pick.{pick, has, times}
-use Rattle.records.specs.Edition.{Edition, one}
-use Rattle.records.specs.Fields.{Field, missing}
+use Rattle.records.specs.Pick.{has, times}
+use Rattle.records.specs.Fields.{missing}
 use Rattle.records.specs.Step.{Opened, State, Turn, next, refused, lastField}
 use Rattle.records.specs.Check.{Answer, units, refusal}
 use Rattle.records.specs.Outcome.{laid}

@@ -1,6 +1,6 @@
 -- Document 01, "Refusal numbers" (6): the instruction or terminator at a place, with the function that it stands in.
 use Prim.Native.Nat.{ℕ, _+_}
-use mathlib.Core.Bool.{Bool, true, false}
+use mathlib.Core.Bool.{true, false}
 use mathlib.Core.List.{List, [], _∷_}
 use lib.Dec.{eqb}
 use lib.ListN.{length}

@@ -1,6 +1,6 @@
 -- Document 01, "The program file": what each record holds, how long it is, how it is read off bytes, and the range of each number in it.
 use Prim.Native.Nat.{ℕ, _+_, _*_}
-use mathlib.Core.Bool.{Bool, true, false}
+use mathlib.Core.Bool.{Bool, true}
 use mathlib.Core.List.{List, [], _∷_}
 use lib.Dec.{ltb, leb, eqb}
 use lib.ListN.{getD, length}

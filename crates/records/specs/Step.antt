@@ -7,7 +7,7 @@ use lib.ListN.{getD, length}
 use Rattle.records.specs.Pick.{pick, _and_, _or_, has, times}
 use Rattle.records.specs.Edition.{Edition}
 use Rattle.records.specs.Fields.{Field, noField, fieldsOf, endFieldsOf, leastTargets, mostTargets, instructionFits, terminatorFits, most, missing, takes, greatest, wellFormed}
-use Rattle.records.specs.Record.{Storage, Abi, Operand, Rec, header, storage, function, abi, block, instruction, operand, terminator, target, end, headerFits, storageFits, abiFits, wordOf}
+use Rattle.records.specs.Record.{Operand, Rec, header, storage, function, abi, block, instruction, operand, terminator, target, end, headerFits, storageFits, abiFits, wordOf}
 use Rattle.records.specs.Units.{numberIn, noted, noUnit}
 use Rattle.records.specs.declared.Refusal.{Refusal}
 use Rattle.records.specs.declared.Refusal.the-variants.{Form, Repeated, Undeclared, Limit}

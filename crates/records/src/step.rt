@@ -6,7 +6,7 @@ ghost use lib.Dec.{eqb};
 ghost use lib.ListN.{length, take};
 ghost use Rattle.records.specs.Pick.{has, _and_, _or_};
 ghost use Rattle.records.specs.Edition.{one};
-ghost use Rattle.records.specs.Record.{Rec, storage, function, abi, block, operand, target, end, u8At, u16At, lengthOf, headerAt, storageIn, abiIn, instructionAt, operandIn, terminatorAt, recordAt};
+ghost use Rattle.records.specs.Record.{storage, function, abi, block, operand, target, end, u8At, u16At, lengthOf, headerAt, storageIn, abiIn, instructionAt, operandIn, terminatorAt, recordAt};
 ghost use Rattle.records.specs.Step.{Opened, State, inStorages, inAbi, inBlock, afterBlock, withFunction, withBlock, belongs, leaves, finished, step, take as taken};
 ghost use Rattle.records.specs.Mirror.{Kept, pendingOf, readerOf, Low, Holds, Sane, Comes};
 use crate::Refusal;

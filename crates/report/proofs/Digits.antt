@@ -1,6 +1,6 @@
 -- How many digits a number takes in decimal, and that the fewest that hold it spell the text that `decimal` names.
 -- Two counts that are both the fewest are equal, and `widthBy` is such a count, since it grows by one for each division by ten.
-use Prim.Native.Nat.{ℕ, zero, suc, _-_, _*_, _/_, _^_, _≤_, _<_}
+use Prim.Native.Nat.{ℕ, zero, suc, _-_, _/_, _^_, _≤_, _<_}
 use native.Mathlib.Nat.{le-antisymm, le-of-suc-le-suc, lt-of-not-le, pow-le-pow-right, pow-suc, pow-zero}
 use native.Mathlib.Omega.{arith}
 use mathlib.Core.Bool.{Bool, true, false, cond}

@@ -1,6 +1,5 @@
 -- Document 01, "The program file" (fixed codes) and "Placement" (results): the twelve placements by their codes, with the numbers a and b of each, and the
 -- regions in which they lie.
-use mathlib.Core.Bool.{Bool}
 use Prim.Native.Nat.{ℕ}
 use lib.Dec.{eqb}
 use Rattle.records.specs.Pick.{pick}

@@ -2,18 +2,17 @@
 -- contract does.
 use mathlib.Core.Path.{_≡_}
 use mathlib.Core.Logic.{_⊎_}
-use mathlib.Core.Bool.{Bool, true, false}
 use mathlib.Core.List.{List, [], _∷_, _++_}
 use Prim.Native.Nat.{ℕ, _+_, _*_, _≤_, _<_}
 use lib.Dec.{eqb}
 use lib.ListN.{length, getD, take, drop}
 use Rattle.records.specs.Pick.{pick}
 use Rattle.records.specs.Edition.{Edition, one}
-use Rattle.records.specs.Record.{Abi, Operand, Rec, header, storage, function, abi, block, instruction, operand, terminator, target, end, u8At, wordOf}
+use Rattle.records.specs.Record.{Rec, header, storage, function, abi, block, instruction, operand, terminator, target, end, u8At, wordOf}
 use Rattle.records.specs.Units.{numberIn, noUnit}
 use Rattle.records.specs.Check.{units, check, pieces, recordsIn, records, numbers}
-use Rattle.records.specs.Program.{Step, Function, Rest, Program, stepOf, functionOf, gather, program}
-use Rattle.records.specs.Place.{Found, step, nowhere, stepAt}
+use Rattle.records.specs.Program.{Step, Function, Rest, stepOf, functionOf, gather, program}
+use Rattle.records.specs.Place.{step, nowhere, stepAt}
 use Rattle.units.specs.Uses.{lookup, defined, missing}
 use Rattle.units.specs.declared.cursor.Cursor.{Cursor}
 use Rattle.units.specs.declared.locate.Located.{Located}

@@ -1,7 +1,7 @@
 -- Document 01, "What moves" (queries) and "Refusal numbers": each query at a place as one outcome, the answer and the lent words for every input.
 use mathlib.Core.Path.{_≡_}
 use mathlib.Core.Bool.{Bool, true, false}
-use mathlib.Core.List.{List, [], _∷_, _++_}
+use mathlib.Core.List.{List, [], _++_}
 use Prim.Native.Nat.{ℕ}
 use lib.Dec.{ltb}
 use lib.ListN.{length, drop}

@@ -3,10 +3,9 @@
 use mathlib.Core.Bool.{Bool, true, false}
 use mathlib.Core.List.{List, [], _∷_, map}
 use Prim.Native.Nat.{ℕ, _/_, _%_}
-use lib.Dec.{ltb, leb, eqb}
+use lib.Dec.{leb, eqb}
 use Rattle.records.specs.Pick.{pick, _and_, _or_}
 use Rattle.records.specs.Edition.{Edition}
-use Rattle.records.specs.Fields.{Field}
 use Rattle.records.specs.Record.{Abi, Operand, wordOf}
 use Rattle.records.specs.Step.{fieldAt}
 use Rattle.records.specs.Program.{Step, Function, Program, rowOf}

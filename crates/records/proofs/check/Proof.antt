@@ -1,9 +1,6 @@
 -- A short buffer is refused untouched; else the first 512 words are lent on, and what lies past them stays.
 -- The local array holds a unit number for each record of seven bytes that a file can have.
-use mathlib.Core.Path.{_≡_}
 use borrow.Author.Needs.{needs}
-use native.Mathlib.Omega.{arith}
-use lib.ListN.{length, take}
 use lib.Seq.{length-take-le}
 use Rattle.records.proofs.Outcomes.{checks-short, checks-all}
 use Rattle.records.proofs.check.Statement.{statement}

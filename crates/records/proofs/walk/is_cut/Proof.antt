@@ -1,6 +1,6 @@
 -- No length is no kind; else the tail is too short or long enough, as the second test says.
 -- Assumes nothing.
-use mathlib.Core.Path.{sym, _∙_}
+use mathlib.Core.Path.{sym}
 use mathlib.Core.Bool.{false≢true}
 use mathlib.Core.Logic.{inl, inr}
 use borrow.Author.Needs.{needs}
