@@ -11,9 +11,9 @@ use lib.Seq.{length-take-le}
 use borrow.Author.Tests.{le-ltb, lt-ltb}
 use Rattle.rows.specs.Row as W
 use Rattle.rows.proofs.Rows.{put-whole}
-use Rattle.records.specs.Pick.{pick, pick-yes, pick-no, All}
-use Rattle.records.specs.Edition.{one}
-use Rattle.records.specs.Record.{Storage, u16At, headerFits, storageFits}
+use Rattle.fields.specs.Pick.{pick, pick-yes, pick-no, All}
+use Rattle.fields.specs.Edition.{one}
+use Rattle.fields.specs.Record.{Storage, u16At, headerFits, storageFits}
 use Rattle.records.specs.Check.{Answer, units, refusal, check}
 use Rattle.records.specs.Outcome.{laid}
 use Rattle.records.specs.Program.{program}
@@ -37,7 +37,7 @@ use Rattle.allocator.specs.declared.Placing.{Placing}
 use Rattle.allocator.specs.declared.Placing.the-variants.{Done, Refused}
 use Rattle.allocator.specs.declared.all.Allocated.{Allocated}
 use Rattle.allocator.specs.declared.all.Allocated.the-variants as allocated
-use Rattle.allocator.proofs.Telling.{relation-length, tells}
+use Rattle.allocator.proofs.Telling.{tells}
 
 none-past : (n : ℕ) (l : List ℕ) → length l ≡ n → drop n l ≡ drop n []
 none-past n l e = drop-of-length-le l {i = n} (omega arith) ∙ sym (drop-of-length-le {A = ℕ} [] {i = n} (omega arith))
@@ -87,12 +87,6 @@ module _ (f words live graph copies : List ℕ) (n : ℕ) (h : Analysed f words 
 
   pub analysed-tells : Tells (given one (program one f)) graph copies
   analysed-tells = let a = analysed in tells (program one f) graph copies (a .graph-is) (a .copies-are)
-
-  pub analysed-graph : length graph ≡ 1024
-  analysed-graph = relation-length (interferes one (program one f)) graph (analysed .graph-is)
-
-  pub analysed-copies : length copies ≡ 1024
-  analysed-copies = relation-length (copied one (program one f)) copies (analysed .copies-are)
 
   -- The window of the search for a bit ends at A.
   pub analysed-window : given one (program one f) .hi ≡ u16At f 1

@@ -5,8 +5,8 @@ use mathlib.Core.List.{List, [], _∷_, map}
 use Prim.Native.Nat.{ℕ, _*_, _≤_}
 use native.Mathlib.Omega.{arith}
 use lib.ListN.{length, length-map}
-use Rattle.records.specs.Pick.{All}
-use Rattle.records.specs.Edition.{one}
+use Rattle.fields.specs.Pick.{All}
+use Rattle.fields.specs.Edition.{one}
 use Rattle.records.specs.Check.{units, check}
 use Rattle.records.specs.Program.{Function, Program, program}
 use Rattle.records.proofs.Accepted.{accepted}

@@ -14,7 +14,7 @@ use Rattle.rows.specs.Row.{bit}
 use Rattle.rows.proofs.Tests.{T-yes, T-no, T-false}
 use Rattle.rows.proofs.Digit.{bit-eq, bit-zero, word-ext}
 use Rattle.rows.proofs.Members.{getD-none}
-use Rattle.records.specs.Pick.{pick, All}
+use Rattle.fields.specs.Pick.{pick, All}
 use Rattle.storages.specs.declared.Storage.{Storage}
 use Rattle.storages.specs.declared.Space.{Space}
 use Rattle.storages.specs.declared.Space.the-variants.{App, Work}

@@ -9,10 +9,10 @@ use lib.Dec.{leb}
 use lib.ListN.{length, take, replicate, length-replicate, replicate-append-replicate}
 use lib.Seq.{take-at, take-append-add, length-take-le}
 use borrow.Author.Tests.{leb-true, ltb-true}
-use Rattle.records.specs.Pick.{pick, _and_}
-use Rattle.records.specs.Edition.{one}
-use Rattle.records.specs.Record as R
-use Rattle.records.proofs.Front.{and-both}
+use Rattle.fields.specs.Pick.{pick, _and_}
+use Rattle.fields.specs.Edition.{one}
+use Rattle.fields.specs.Record as R
+use Rattle.fields.proofs.Front.{and-both}
 use Rattle.storages.specs.declared.Storage.{Storage}
 use Rattle.storages.specs.Placement.{fixedAt}
 use Rattle.storages.specs.Storage.{stored}

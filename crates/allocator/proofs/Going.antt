@@ -3,16 +3,16 @@
 use mathlib.Core.Path.{_≡_, refl, sym, ap, _∙_, subst}
 use mathlib.Core.Bool.{true, false}
 use mathlib.Core.List.{List, [], _∷_, map}
-use Prim.Native.Nat.{ℕ, zero, suc, _+_, _*_, _≤_, _<_}
+use Prim.Native.Nat.{ℕ, zero, suc, _+_, _*_, _/_, _%_, _≤_, _<_}
 use native.Mathlib.Omega.{arith}
 use native.Mathlib.Nat.{not-suc-le-zero}
-use lib.ListN.{length, drop, set}
+use lib.ListN.{length, drop, getD, set, replicate, length-set}
 use lib.Seq.{drop-drop}
 use Rattle.rows.specs.Row.{memberAt}
-use Rattle.records.specs.Pick.{pick-yes, pick-no, All}
-use Rattle.records.specs.Edition.{one}
+use Rattle.fields.specs.Pick.{pick-yes, pick-no, All}
+use Rattle.fields.specs.Edition.{one}
 use Rattle.records.specs.Outcome.{laid}
-use Rattle.records.specs.Record as R
+use Rattle.fields.specs.Record as R
 use Rattle.records.specs.declared.Refusal.{Refusal}
 use Rattle.storages.specs.declared.Placement.{Placement}
 use Rattle.storages.specs.declared.Storage.{Storage}
@@ -20,7 +20,9 @@ use Rattle.storages.specs.Storage.{stored}
 use Rattle.storages.specs.File.{opensStorage, storagesBy, declared}
 use Rattle.storages.proofs.Declared.{opens-inside}
 use Rattle.slots.specs.declared.Slot.{Slot}
-use Rattle.slots.specs.Slots.{opened}
+use Rattle.slots.specs.declared.Page.{Page}
+use Rattle.slots.specs.Slots.{noPage, slotsIn, opened}
+use Rattle.slots.proofs.Pages.{Full, full-none, full-put, number-put}
 use Rattle.turns.specs.declared.turn.Verdict.{Verdict}
 use Rattle.turns.specs.declared.turn.Verdict.the-variants.{Placed, Opened, Refused}
 use Rattle.allocator.specs.declared.all.Allocated.the-variants as allocated
@@ -42,8 +44,8 @@ told graph copies hi = record { meets = λ i j. memberAt graph (i * 4) j; copies
 told-tells : (graph copies : List ℕ) (hi : ℕ) → Tells (told graph copies hi) graph copies
 told-tells graph copies hi = record { meeting = λ i j a b. refl; copying = λ i j a b. refl }
 
--- The loop's invariant: the arrays keep their lengths, every record ahead fits and there is an entry for it, and placing comes to the same from here.
-pub record Going (file graph copies app₀ wrk₀ app wrk : List ℕ) (list : List Slot) (n : ℕ) (ids owners numbers out : List ℕ) (at i : ℕ) : Type 0 where
+-- The loop's invariant: the arrays and the pages of slots keep their lengths, every record ahead fits and there is an entry for it, and placing comes to the same from here.
+pub record Going (file graph copies app₀ wrk₀ app wrk : List ℕ) (list : List Page) (n : ℕ) (ids owners numbers out : List ℕ) (at i : ℕ) : Type 0 where
   pub inside : at ≤ length file
   pub app-long : length app ≡ length app₀
   pub wrk-long : length wrk ≡ length wrk₀
@@ -51,12 +53,14 @@ pub record Going (file graph copies app₀ wrk₀ app wrk : List ℕ) (list : Li
   pub owners-long : length owners ≡ 256
   pub numbers-long : length numbers ≡ 256
   pub out-long : length out ≡ 2048
+  pub pages : length list ≡ 16
+  pub full : Full list
   pub fuel : ℕ
   pub enough : length file ≤ at + fuel
   pub fits : All (λ x. R.storageFits one x ≡ true) (storagesBy fuel (drop at file))
   pub few : i + length (storagesBy fuel (drop at file)) ≤ 256
   pub held : (g : Given) → Tells g graph copies → g .lo ≡ 0 → g .hi ≡ length app₀
-      → (x : State) × Held x app wrk list n ids owners numbers out i
+      → (x : State) × Held x app wrk (slotsIn list) n ids owners numbers out i
       × (placeFrom g (map stored (storagesBy fuel (drop at file))) x ≡ placeFrom g (map stored (declared file)) (begun app₀ wrk₀))
 
 -- ---- The start
@@ -65,8 +69,8 @@ pub clear-long : (out : List ℕ) → out ≡ laid 2048 [] [] → length out ≡
 unfolding laid
 clear-long out e = ap length e
 
-module _ (file graph copies app wrk : List ℕ) (list : List Slot) (ids owners numbers out : List ℕ) where
-  begun-held : out ≡ laid 2048 [] [] → Held (begun app wrk) app wrk list 0 ids owners numbers out 0
+module _ (file graph copies app wrk : List ℕ) (list : List Page) (ids owners numbers out : List ℕ) where
+  begun-held : out ≡ laid 2048 [] [] → Held (begun app wrk) app wrk (slotsIn list) 0 ids owners numbers out 0
   unfolding recordsOf
   begun-held e = record {
     app-is = refl;
@@ -86,10 +90,10 @@ module _ (file graph copies app wrk : List ℕ) (list : List Slot) (ids owners n
     out-is = e;
   }
 
-  pub going-start : 7 ≤ length file → Fit file → length ids ≡ 256 → length owners ≡ 256 → length numbers ≡ 256 → out ≡ laid 2048 [] []
+  pub going-start : 7 ≤ length file → Fit file → length ids ≡ 256 → length owners ≡ 256 → length numbers ≡ 256 → out ≡ laid 2048 [] [] → list ≡ replicate 16 noPage
       → Going file graph copies app wrk app wrk list 0 ids owners numbers out 7 0
   unfolding declared
-  going-start h fit li lw ln e = record {
+  going-start h fit li lw ln e none = record {
     inside = h;
     app-long = refl;
     wrk-long = refl;
@@ -97,6 +101,8 @@ module _ (file graph copies app wrk : List ℕ) (list : List Slot) (ids owners n
     owners-long = lw;
     numbers-long = ln;
     out-long = clear-long out e;
+    pages = ap length none;
+    full = subst Full (sym none) (full-none 16);
     fuel = length file;
     enough = omega arith;
     fits = fit .each;
@@ -112,17 +118,32 @@ Went Placed = Unit {0}
 Went (Opened p) = Unit {0}
 Went (Refused r) = ⊥
 
-module _ (list : List Slot) (n : ℕ) (z : Storage) (v : Verdict) (list′ : List Slot) (n′ : ℕ) where
+module _ (list : List Page) (n : ℕ) (z : Storage) (v : Verdict) (list′ : List Page) (n′ : ℕ) where
   abbrev pub Follows : Type 0
-  Follows = Went v × (list′ ≡ listAfter list n z v) × (n′ ≡ countAfter n v)
+  Follows = Went v × (slotsIn list′ ≡ listAfter (slotsIn list) n z v) × (n′ ≡ countAfter n v) × (length list′ ≡ 16) × Full list′
 
-  pub placed-follows : v ≡ Placed → list′ ≡ list → n′ ≡ n → Follows
-  placed-follows e q m = (subst Went (sym e) tt, q ∙ sym (ap (listAfter list n z) e), m ∙ sym (ap (countAfter n) e))
+  module _ (pages : length list ≡ 16) (full : Full list) where
+    pub placed-follows : v ≡ Placed → list′ ≡ list → n′ ≡ n → Follows
+    placed-follows e q m = (
+      subst Went (sym e) tt,
+      ap slotsIn q ∙ sym (ap (listAfter (slotsIn list) n z) e),
+      m ∙ sym (ap (countAfter n) e),
+      ap length q ∙ pages,
+      subst Full (sym q) full,
+    )
 
-  -- The slot that the storage opened is the one that was put behind the others.
-  pub opened-follows : (p : Placement) (y : Slot) → v ≡ Opened p → y ≡ opened z p → list′ ≡ set list n y → n′ ≡ n + 1 → Follows
-  opened-follows p y e b q m =
-      (subst Went (sym e) tt, q ∙ ap (set list n) b ∙ sym (ap (listAfter list n z) e), m ∙ sym (ap (countAfter n) e))
+    -- The slot that the storage opened is the one that was put behind the others, into its page.
+    pub opened-follows : n < 256 → (p : Placement) (y : Slot) (d page : Page) → v ≡ Opened p → y ≡ opened z p
+        → page ≡ record { slots = set (getD list (n / 16) d .slots) (n % 16) y } → list′ ≡ set list (n / 16) page → n′ ≡ n + 1 → Follows
+    opened-follows l p y d page e b w q m =
+        let here : n < length list * 16 = omega arith in
+        let put = q ∙ ap (set list (n / 16)) w in (
+          subst Went (sym e) tt,
+          ap slotsIn put ∙ number-put list n d y full here ∙ ap (set (slotsIn list) n) b ∙ sym (ap (listAfter (slotsIn list) n z) e),
+          m ∙ sym (ap (countAfter n) e),
+          ap length q ∙ length-set list (n / 16) page ∙ pages,
+          subst Full (sym put) (full-put list (n / 16) (n % 16) d y full),
+        )
 
 -- ---- The record at the front
 
@@ -134,10 +155,10 @@ front-cons file at zero h e o = absurd (omega (arith, opens-inside file at h o))
 front-cons file at (suc k) h e o =
     (k, omega arith, pick-yes (opensStorage (drop at file)) _ _ o ∙ ap (λ (t : List ℕ). R.storageIn (drop at file) ∷ storagesBy k t) (drop-drop 16 at file))
 
-module _ {file graph copies app₀ wrk₀ app wrk : List ℕ} {list : List Slot} {n : ℕ} {ids owners numbers out : List ℕ} {at i : ℕ}
+module _ {file graph copies app₀ wrk₀ app wrk : List ℕ} {list : List Page} {n : ℕ} {ids owners numbers out : List ℕ} {at i : ℕ}
     (s : Going file graph copies app₀ wrk₀ app wrk list n ids owners numbers out at i) where
   -- The words stand for a state, since they tell what is given themselves.
-  pub going-held : (x : State) × Held x app wrk list n ids owners numbers out i
+  pub going-held : (x : State) × Held x app wrk (slotsIn list) n ids owners numbers out i
   going-held = let h = s .held (told graph copies (length app₀)) (told-tells graph copies (length app₀)) refl refl in (h .0, h .1)
 
   module _ (t : List ℕ) (z : Storage) (et : t ≡ drop at file) (ez : z ≡ stored (R.storageIn t)) (o : opensStorage (drop at file) ≡ true) where
@@ -152,29 +173,33 @@ module _ {file graph copies app₀ wrk₀ app wrk : List ℕ} {list : List Slot}
         let small : FixedSmall (z .len) (z .fixed) = subst (λ (y : Storage). FixedSmall (y .len) (y .fixed)) (sym front-is) (f .1) in
         (omega (arith, s .few, ap length (k .2)), low, small)
 
+    -- A slot more finds room, for no more are open than storages were placed.
+    pub front-few : n < 256
+    front-few = omega (arith, front-fits .0, going-held .1 .kept .few)
+
     module _ (v : Verdict) (app′ wrk′ ids′ owners′ numbers′ out′ : List ℕ)
-        (turn : (g : Given) (x : State) → Tells g graph copies → g .lo ≡ 0 → g .hi ≡ length app → Held x app wrk list n ids owners numbers out i
-        → TurnedBy (step g z x) v app′ wrk′ (listAfter list n z v) (countAfter n v) ids′ owners′ numbers′ out′ (i + 1)) where
+        (turn : (g : Given) (x : State) → Tells g graph copies → g .lo ≡ 0 → g .hi ≡ length app → Held x app wrk (slotsIn list) n ids owners numbers out i
+        → TurnedBy (step g z x) v app′ wrk′ (listAfter (slotsIn list) n z v) (countAfter n v) ids′ owners′ numbers′ out′ (i + 1)) where
       pub going-refused : (r : Refusal) → v ≡ Refused r → (g : Given) → Tells g graph copies → g .lo ≡ 0 → g .hi ≡ length app₀
           → placeFrom g (map stored (declared file)) (begun app₀ wrk₀) ≡ refused r
       going-refused r e g t lo hi =
           let k = front-cons file at (s .fuel) (s .inside) (s .enough) o in
           let h = s .held g t lo hi in
-          let q = subst (λ (u : Verdict). TurnedBy (step g z (h .0)) u app′ wrk′ (listAfter list n z u) (countAfter n u) ids′ owners′ numbers′ out′ (i + 1)) e (turn g (h .0) t lo (hi ∙ sym (s .app-long)) (h .1)) in
+          let q = subst (λ (u : Verdict). TurnedBy (step g z (h .0)) u app′ wrk′ (listAfter (slotsIn list) n z u) (countAfter n u) ids′ owners′ numbers′ out′ (i + 1)) e (turn g (h .0) t lo (hi ∙ sym (s .app-long)) (h .1)) in
           sym (h .2) ∙ ap (λ (ss : List R.Storage). placeFrom g (map stored ss) (h .0)) (k .2)
           ∙ place-refused g (stored (R.storageIn (drop at file))) _ (h .0) r (ap (λ (y : Storage). step g y (h .0)) (sym front-is) ∙ q)
 
       -- A storage that was placed leaves a state, and the slots that follow stand for that state's.
-      leaves : (list′ : List Slot) (n′ : ℕ) → Follows list n z v list′ n′ → (u : Outcome) → TurnedBy u v app′ wrk′ (listAfter list n z v) (countAfter n v) ids′ owners′ numbers′ out′ (i + 1)
-          → (y : State) × (u ≡ done y) × Held y app′ wrk′ list′ n′ ids′ owners′ numbers′ out′ (i + 1)
+      leaves : (list′ : List Page) (n′ : ℕ) → Follows list n z v list′ n′ → (u : Outcome) → TurnedBy u v app′ wrk′ (listAfter (slotsIn list) n z v) (countAfter n v) ids′ owners′ numbers′ out′ (i + 1)
+          → (y : State) × (u ≡ done y) × Held y app′ wrk′ (slotsIn list′) n′ ids′ owners′ numbers′ out′ (i + 1)
       leaves list′ n′ f u d = go v (f .0) (rw (f .1, f .2) d)
         where
-          go : (w : Verdict) → Went w → TurnedBy u w app′ wrk′ list′ n′ ids′ owners′ numbers′ out′ (i + 1)
-              → (y : State) × (u ≡ done y) × Held y app′ wrk′ list′ n′ ids′ owners′ numbers′ out′ (i + 1)
+          go : (w : Verdict) → Went w → TurnedBy u w app′ wrk′ (slotsIn list′) n′ ids′ owners′ numbers′ out′ (i + 1)
+              → (y : State) × (u ≡ done y) × Held y app′ wrk′ (slotsIn list′) n′ ids′ owners′ numbers′ out′ (i + 1)
           go Placed k e = e
           go (Opened p) k e = e
 
-      pub going-on : (list′ : List Slot) (n′ : ℕ) → Follows list n z v list′ n′ → length app′ ≡ length app → length wrk′ ≡ length wrk → length ids′ ≡ length ids
+      pub going-on : (list′ : List Page) (n′ : ℕ) → Follows list n z v list′ n′ → length app′ ≡ length app → length wrk′ ≡ length wrk → length ids′ ≡ length ids
           → length owners′ ≡ length owners → length numbers′ ≡ length numbers → length out′ ≡ length out
           → Going file graph copies app₀ wrk₀ app′ wrk′ list′ n′ ids′ owners′ numbers′ out′ (at + 16) (i + 1)
       going-on list′ n′ f la lw li lr ln lo =
@@ -187,6 +212,8 @@ module _ {file graph copies app₀ wrk₀ app wrk : List ℕ} {list : List Slot}
             owners-long = lr ∙ s .owners-long;
             numbers-long = ln ∙ s .numbers-long;
             out-long = lo ∙ s .out-long;
+            pages = f .3;
+            full = f .4;
             fuel = k .0;
             enough = k .1;
             fits = subst (All (λ x. R.storageFits one x ≡ true)) (k .2) (s .fits) .1;

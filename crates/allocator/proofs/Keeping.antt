@@ -9,7 +9,7 @@ use native.Mathlib.Decide.{ℕ-discrete}
 use lib.Dec.{T, eqb, eqb-refl, not-T}
 use lib.ListN.{length, set, length-set}
 use lib.Seq.{getD-set-same, getD-set-other}
-use Rattle.records.specs.Pick.{All}
+use Rattle.fields.specs.Pick.{All}
 use Rattle.storages.specs.declared.Fixed.the-variants.{Free}
 use Rattle.storages.specs.declared.Storage.{Storage}
 use Rattle.storages.specs.declared.Space.{Space}

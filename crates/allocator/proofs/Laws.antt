@@ -10,7 +10,7 @@ use native.Mathlib.Decide.{decLt}
 use lib.Dec.{T, eqb, eqb→eq}
 use lib.ListN.{length, getD, length-map, List·getD-map}
 use lib.Seq.{append-snoc}
-use Rattle.records.specs.Pick.{pick, _and_, _or_, All}
+use Rattle.fields.specs.Pick.{pick, _and_, _or_, All}
 use Rattle.storages.specs.declared.Placement.{Placement}
 use Rattle.storages.specs.declared.Fixed.{Fixed}
 use Rattle.storages.specs.declared.Fixed.the-variants as fixed

@@ -7,9 +7,9 @@ use Prim.Native.Nat.{ℕ, _≤_, _<_}
 use native.Mathlib.Omega.{arith}
 use lib.Dec.{T}
 use lib.ListN.{length, getD, length-map}
-use Rattle.records.specs.Pick.{All}
-use Rattle.records.specs.Edition.{one}
-use Rattle.records.specs.Record as R
+use Rattle.fields.specs.Pick.{All}
+use Rattle.fields.specs.Edition.{one}
+use Rattle.fields.specs.Record as R
 use Rattle.records.specs.Check.{units, check}
 use Rattle.records.specs.Program.{Program, program}
 use Rattle.records.proofs.Accepted.{accepted}

@@ -8,7 +8,7 @@ use Prim.Native.Nat.{ℕ, _≤_}
 use native.Mathlib.Omega.{arith}
 use lib.Dec.{T, eqb, T-not}
 use lib.ListN.{length}
-use Rattle.records.specs.Pick.{_and_, _or_}
+use Rattle.fields.specs.Pick.{_and_, _or_}
 use Rattle.records.specs.declared.Refusal.{Refusal}
 use Rattle.records.specs.declared.Refusal.the-variants.{Short, Form, Repeated, Undeclared, Limit, Absent, ApplicationFull, WorkFull, NoPlace, BadFixed, Conflict, Misfit}
 use Rattle.storages.specs.declared.Placement.{Placement}
@@ -150,9 +150,6 @@ module _ (g : Given) (s : Storage) (m : Maps) where
     pub choose-why : Bad Why (choose g s m)
     unfolding choose
     choose-why = choose-by (s .fixed)
-
-    pub no-misfit : (id : ℕ) → ¬ (choose g s m ≡ Refused (Misfit id))
-    no-misfit id e = no-reason id (s .fixed) (subst (Bad Why) e choose-why)
 
 -- ---- The first refusal stands
 

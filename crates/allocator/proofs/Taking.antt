@@ -10,7 +10,7 @@ use lib.Dec.{T, eqb, eqb-refl}
 use lib.ListN.{length, length-append, List·getD-append}
 use lib.Seq.{getD-append-seam}
 use Rattle.rows.proofs.Tests.{T-yes}
-use Rattle.records.specs.Pick.{pick, All}
+use Rattle.fields.specs.Pick.{pick, All}
 use Rattle.storages.specs.declared.Placement.{Placement}
 use Rattle.storages.specs.declared.Storage.{Storage}
 use Rattle.storages.specs.declared.Space.the-variants.{App, Work}

@@ -1,17 +1,17 @@
 -- The rows of a relation hold its pairs: row i stands at word 4 i, and a packed row holds just the numbers that it was packed from. So the buffers of the
 -- analysis tell placing which storages interfere and which are copies.
-use mathlib.Core.Path.{_≡_, refl, sym, ap, ap₂, _∙_}
+use mathlib.Core.Path.{_≡_, sym, ap, ap₂, _∙_}
 use mathlib.Core.Bool.{Bool}
 use mathlib.Core.List.{List, _++_}
 use Prim.Native.Nat.{ℕ, zero, suc, _+_, _-_, _*_, _≤_, _<_}
 use native.Mathlib.Omega.{arith}
 use native.Mathlib.Nat.{not-suc-le-zero, le-of-suc-le-suc}
-use lib.ListN.{length, take, drop, length-append}
+use lib.ListN.{length, take, drop}
 use lib.Seq.{drop-append-add, take-append-seam}
 use Rattle.rows.specs.Row.{pack, member, memberAt, row}
 use Rattle.rows.proofs.Members.{member-row}
 use Rattle.rows.proofs.Pack.{length-pack, member-pack}
-use Rattle.records.specs.Edition.{one}
+use Rattle.fields.specs.Edition.{one}
 use Rattle.records.specs.Program.{Program}
 use Rattle.graph.specs.Graph.{interferes, copied}
 use Rattle.graph.specs.Graphs.{relationRows}
@@ -40,14 +40,6 @@ module _ (r : ℕ → ℕ → Bool) where
   row-packed i n =
       ap (λ (m : ℕ). take m (pack 4 (r i) ++ relationRows one r (suc i) n)) (sym (length-pack 4 (r i)))
       ∙ take-append-seam (pack 4 (r i)) (relationRows one r (suc i) n)
-
-  rows-length : (n k : ℕ) → length (relationRows one r k n) ≡ n * 4
-  unfolding relationRows
-  rows-length zero k = refl
-  rows-length (suc n) k = length-append (pack 4 (r k)) (relationRows one r (suc k) n) ∙ omega (arith, length-pack 4 (r k), rows-length n (suc k))
-
-  pub relation-length : (l : List ℕ) → l ≡ relationRows one r 0 256 → length l ≡ 1024
-  relation-length l e = ap length e ∙ rows-length 256 0
 
   pub relation-holds : (i j : ℕ) → i < 256 → j < 256 → memberAt (relationRows one r 0 256) (i * 4) j ≡ r i j
   unfolding row

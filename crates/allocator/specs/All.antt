@@ -4,9 +4,9 @@ use mathlib.Core.Bool.{true}
 use mathlib.Core.List.{List, []}
 use Prim.Native.Nat.{ℕ, _≤_}
 use lib.ListN.{length}
-use Rattle.records.specs.Pick.{All}
-use Rattle.records.specs.Edition.{one}
-use Rattle.records.specs.Record.{storageFits}
+use Rattle.fields.specs.Pick.{All}
+use Rattle.fields.specs.Edition.{one}
+use Rattle.fields.specs.Record.{storageFits}
 use Rattle.records.specs.Outcome.{laid}
 use Rattle.storages.specs.File.{declared}
 use Rattle.places.specs.Place.{State, Outcome, done, refused, recordsOf}

@@ -5,8 +5,8 @@ use mathlib.Core.List.{List, [], map}
 use Prim.Native.Nat.{ℕ, _*_}
 use lib.Dec.{ltb}
 use lib.ListN.{length}
-use Rattle.records.specs.Pick.{pick}
-use Rattle.records.specs.Edition.{Edition, one}
+use Rattle.fields.specs.Pick.{pick}
+use Rattle.fields.specs.Edition.{Edition, one}
 use Rattle.records.specs.Check.{check}
 use Rattle.records.specs.Outcome.{laid}
 use Rattle.records.specs.Program.{Program, program}

@@ -4,19 +4,19 @@ ghost use mathlib.Core.Bool.{true};
 ghost use mathlib.Core.List.{[], map};
 ghost use Prim.Native.Nat.{_≤_};
 ghost use lib.ListN.{length};
-ghost use Rattle.records.specs.Record.{u16At, headerFits};
+ghost use Rattle.fields.specs.Record.{u16At, headerFits};
 ghost use Rattle.records.specs.Outcome.{laid};
 ghost use Rattle.storages.specs.Storage.{stored};
 ghost use Rattle.storages.specs.File.{declared};
 ghost use Rattle.places.specs.Place.{Given, placeFrom, place};
 ghost use Rattle.turns.specs.Held.{Tells};
 ghost use Rattle.allocator.specs.All.{Fit, Allocates};
+use fields::bytes::tail_of;
+use fields::bytes::u16_at;
 use maps::take_bytes;
 use records::Refusal;
-use records::bytes::tail_of;
-use records::bytes::u16_at;
 use slots::no_slots;
-use slots::put_in;
+use slots::put_page;
 use slots::slot_of;
 use storages::opens_storage;
 use storages::storage_at;
@@ -69,8 +69,9 @@ pub fn place_all(
         ) {
             Verdict::Placed => {}
             Verdict::Opened(p) => {
-                let longer = put_in(list, n, slot_of(s, p));
-                list = longer;
+                let k = n / 16;
+                let page = list[k];
+                list[k] = put_page(page, n % 16, slot_of(s, p));
                 n += 1;
             }
             Verdict::Refused(r) => return Allocated::Refused(r),

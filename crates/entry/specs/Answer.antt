@@ -2,7 +2,7 @@
 use mathlib.Core.Path.{_≡_}
 use Prim.Native.Nat.{ℕ, _+_, _*_, _%_}
 use mathlib.Core.List.{List}
-use Rattle.records.specs.Edition.{one}
+use Rattle.fields.specs.Edition.{one}
 use Rattle.records.specs.Refusal.{numberOf, valueOf}
 use Rattle.records.specs.Outcome.{outcome}
 use Rattle.records.specs.declared.Refusal.{Refusal}

@@ -5,10 +5,10 @@ use mathlib.Core.List.{List, [], _∷_, _++_, map}
 use Prim.Native.Nat.{ℕ}
 use lib.ListN.{getD, length, replicate}
 use Rattle.rows.specs.Row.{digit, bit}
-use Rattle.records.specs.Pick.{pick, has, times}
-use Rattle.records.specs.Edition.{one}
-use Rattle.records.specs.Fields.{table, fieldsOf, branchFields, endFieldsOf, leastTargets, mostTargets, instructionFits, terminatorFits, missing, wellFormed}
-use Rattle.records.specs.Record.{u8At, u16At, lengths, lengthOf, headerAt, storageIn, abiIn, operandIn, instructionAt, terminatorAt, recordAt, present, read, headerFits, greatestA, greatestB, fixedFits, ownerFits, kindFits, storageFits, abiFits, wordOf}
+use Rattle.fields.specs.Pick.{pick, has, times}
+use Rattle.fields.specs.Edition.{one}
+use Rattle.fields.specs.Fields.{table, fieldsOf, branchFields, endFieldsOf, leastTargets, mostTargets, instructionFits, terminatorFits, missing, wellFormed}
+use Rattle.fields.specs.Record.{u8At, u16At, lengths, lengthOf, headerAt, storageIn, abiIn, operandIn, instructionAt, terminatorAt, recordAt, present, read, headerFits, greatestA, greatestB, fixedFits, ownerFits, kindFits, storageFits, abiFits, wordOf}
 use Rattle.records.specs.Units.{numberIn, noted}
 use Rattle.records.specs.Step.{withHeader, withStorage, withFunction, withBlock, withOpened, withNumber, withUnit, opened, withGiven, withTarget, finished, lastField, operandFits, wordStep, unitStep, operandStep, admit, take, step}
 use Rattle.records.specs.Check.{atTail, scanBy, scan, units, refusal, check, piecesBy, pieces, recordsIn, records}

@@ -10,7 +10,7 @@ use lib.Dec.{eqb}
 use lib.ListN.{length, getD}
 use borrow.Author.Tests.{eqb-true, eqb-false, eq-eqb, ne-eqb, not-true}
 use Rattle.rows.proofs.Tests.{either}
-use Rattle.records.specs.Pick.{pick, _or_, has}
+use Rattle.fields.specs.Pick.{pick, _or_, has}
 use Rattle.units.specs.Sets.{select, any}
 use Rattle.liveness.proofs.SetLaws.{any-cons, any-nil, any-map, has-any}
 use Rattle.graph.specs.Graph.{hasPair}

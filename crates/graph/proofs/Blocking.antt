@@ -9,7 +9,7 @@ use lib.ListN.{length, getD, take}
 use lib.Seq.{take-all}
 use Rattle.rows.specs.Row.{row, put}
 use Rattle.rows.proofs.Rows.{lt-or-ge, length-row, put-whole}
-use Rattle.records.specs.Edition.{one}
+use Rattle.fields.specs.Edition.{one}
 use Rattle.records.specs.Program.{Step, Function, program}
 use Rattle.units.specs.Along.{from, StandsAt, Sound, Ready}
 use Rattle.units.specs.declared.cursor.Cursor.{Cursor}

@@ -16,9 +16,9 @@ use Rattle.rows.specs.Row.{Words, member, memberAt, withAt, row, put, orRow, le
 use Rattle.rows.proofs.Tests.{either, same-test}
 use Rattle.rows.proofs.Rows.{length-row, length-zip, length-put, row-put-same, row-put-other, strides, strides-apart}
 use Rattle.rows.proofs.Members.{length-with-at, member-row, member-or, member-less, table-with, words-set}
-use Rattle.records.specs.Pick.{pick, _or_, has}
-use Rattle.records.specs.Edition.{one}
-use Rattle.records.proofs.Front.{or-is}
+use Rattle.fields.specs.Pick.{pick, _or_, has}
+use Rattle.fields.specs.Edition.{one}
+use Rattle.fields.proofs.Front.{or-is}
 use Rattle.units.specs.Sets.{any, each}
 use Rattle.units.specs.Uses.{storageOf}
 use Rattle.liveness.proofs.SetLaws.{eqb-sym}

@@ -15,11 +15,11 @@ use Rattle.rows.proofs.Tests.{either, same-test}
 use Rattle.rows.proofs.Rows.{length-row}
 use Rattle.rows.proofs.Members.{member-row, words-row, words-none}
 use Rattle.rows.proofs.Pack.{pack-unique}
-use Rattle.records.specs.Pick.{pick, _and_, has}
-use Rattle.records.specs.Edition.{one}
-use Rattle.records.specs.Record.{Storage}
+use Rattle.fields.specs.Pick.{pick, _and_, has}
+use Rattle.fields.specs.Edition.{one}
+use Rattle.fields.specs.Record.{Storage}
 use Rattle.records.specs.Program.{Program}
-use Rattle.records.proofs.Front.{and-is}
+use Rattle.fields.proofs.Front.{and-is}
 use Rattle.units.specs.Sets.{any, each}
 use Rattle.liveness.proofs.SetLaws.{eqb-sym}
 use Rattle.graph.specs.Graph.{hasPair, clashes, allUses, addressed, sameOwner, held, interferes, copiesAt, copies, copied}

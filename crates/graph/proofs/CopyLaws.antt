@@ -7,8 +7,8 @@ use Prim.Native.Nat.{ℕ, _≤_, min, max}
 use native.Mathlib.Omega.{arith}
 use lib.Dec.{T, eqb, eqb→eq}
 use Rattle.rows.proofs.Tests.{and-l, and-r, T-yes}
-use Rattle.records.specs.Pick.{pick}
-use Rattle.records.specs.Edition.{Edition}
+use Rattle.fields.specs.Pick.{pick}
+use Rattle.fields.specs.Edition.{Edition}
 use Rattle.records.specs.Program.{Program}
 use Rattle.units.specs.Sets.{any, each}
 use Rattle.units.specs.Uses.{storageOf}

@@ -1,16 +1,16 @@
 -- Laws of the public operation: what the walk leaves is what the one outcome names, a refusal leaves cleared words, and what lies past the needed words
 -- stays. Each way out is one law.
-use mathlib.Core.Path.{_≡_, refl, sym, ap, _∙_}
+use mathlib.Core.Path.{_≡_, sym, ap, _∙_}
 use mathlib.Core.Bool.{Bool, false}
 use mathlib.Core.List.{List, [], _++_, append-nil}
 use Prim.Native.Nat.{ℕ, _≤_, _<_}
 use native.Mathlib.Omega.{arith}
-use lib.ListN.{length, drop, replicate, length-replicate}
+use lib.ListN.{length, getD, drop, replicate, length-replicate}
 use borrow.Author.Tests.{le-ltb, lt-ltb}
 use Rattle.rows.specs.Row as W
 use Rattle.rows.proofs.Rows.{put-whole}
-use Rattle.records.specs.Pick.{pick, pick-no, _or_}
-use Rattle.records.specs.Edition.{one}
+use Rattle.fields.specs.Pick.{pick, pick-no, _or_}
+use Rattle.fields.specs.Edition.{one}
 use Rattle.records.specs.Check.{Answer, units, refusal, check}
 use Rattle.records.specs.Outcome as R
 use Rattle.records.specs.declared.Refusal.{Refusal}
@@ -19,8 +19,9 @@ use Rattle.records.specs.declared.Checked.{Checked}
 use Rattle.records.specs.declared.Checked.the-variants as checked
 use Rattle.records.proofs.Outcomes.{laid-rest}
 use Rattle.records.proofs.Accepted.{accepted}
+use Rattle.units.specs.Along.{Sane}
+use Rattle.units.proofs.Asking.{Accepted, numbered-units}
 use Rattle.passes.specs.Passes.{blank}
-use Rattle.graph.specs.Graph.{passes}
 use Rattle.graph.specs.Graphs.{Outcome, graphedBy, graphed, GraphsIn, Graphs}
 use Rattle.graph.specs.Walking.{Counted, Whole}
 use Rattle.graph.specs.declared.Graphed.{Graphed}
@@ -32,10 +33,10 @@ unfolding blank
 blank-of n l l′ m e = e ∙ put-whole l (replicate n 0) (m ∙ sym (length-replicate {A = ℕ} n 0))
 
 -- the walk's rows and sum are those that the outcome names
-drawn : (f us found words : List ℕ) (n m : ℕ) (live graph copies : List ℕ) → Counted f us found words n → Whole f us m live graph copies → GraphsIn f (Passes m) words live graph copies
-drawn f us found words n m live graph copies c k = rw (c .accepted, k .sums, k .live, k .graph-is, k .copies-are, c .words-are) (sym (simp append-nil))
+drawn : (f us found table words : List ℕ) (n m : ℕ) (live graph copies : List ℕ) → Counted f us found table words n → Whole f us m live graph copies → GraphsIn f (Passes m) words live graph copies
+drawn f us found table words n m live graph copies c k = rw (c .ready .accepted, k .sums, k .live, k .graph-is, k .copies-are, c .words-are) (sym (simp append-nil))
 
-module _ (f : List ℕ) (r : Checked) (words found : List ℕ) (h : R.Numbers f r words found) where
+module _ (f : List ℕ) (r : Checked) (words found table : List ℕ) (h : R.Numbers f r words found table) where
   pub drawn-refused : (x : Refusal) (live graph copies : List ℕ) → r ≡ checked.Refused x → live ≡ blank 2048 → graph ≡ blank 1024 → copies ≡ blank 1024 → GraphsIn f (Refused x) words live graph copies
   unfolding R.laid blank
   drawn-refused x live graph copies e l g c = go (check one f) (h .0)
@@ -45,28 +46,30 @@ module _ (f : List ℕ) (r : Checked) (words found : List ℕ) (h : R.Numbers f 
       go (units us) q = let z : _≡_ {A = ℕ} 0 1 = cc (ap (λ (o : R.Outcome). o .answer) q) in absurd (omega arith)
       go (refusal y) q = let i : x ≡ y = cc (ap (λ (o : R.Outcome). o .answer) q) in rw (i, ap (λ (o : R.Outcome). o .words) q, l, g, c)
 
-  pub counted-of : (n : ℕ) → r ≡ checked.Units n → (us : List ℕ) × Counted f us found words n
-  counted-of n e = go (check one f) refl (h .0)
-    where
-      go : (a : Answer) → check one f ≡ a → record { answer = r; words = words } ≡ R.outcomeBy one [] a → (us : List ℕ) × Counted f us found words n
-      go (units us) q w =
-          let k : n ≡ length us = cc (ap (λ (o : R.Outcome). o .answer) w) in
-          (us, record { accepted = q; found-are = h .1 us q; words-are = ap (λ (o : R.Outcome). o .words) w; many = k })
-      go (refusal y) q w = let z : _≡_ {A = ℕ} 0 1 = cc (ap (λ (o : R.Outcome). o .answer) w) in absurd (omega arith)
+  module _ (bytes : (i : ℕ) → getD f i 0 < 256) (n : ℕ) (e : r ≡ checked.Units n) where
+    taken : Accepted f 0 words found table
+    taken = numbered-units f 0 r words found table h bytes n e
 
-  module _ (n : ℕ) (e : r ≡ checked.Units n) where
+    many : n ≡ length (taken .us)
+    many = cc (e, ap (λ (o : R.Outcome). o .answer) (h .0 ∙ ap (R.outcomeBy one []) (taken .ready .accepted)))
+
+    pub counted-of : (us : List ℕ) × Counted f us found table words n
+    counted-of = (taken .us, record { ready = taken .ready; words-are = taken .words-are; many = many })
+
+    pub counted-sane : Sane table
+    counted-sane = taken .sane
+
     pub counted-short : length f ≤ 16384
-    counted-short = let w = counted-of n e in accepted one f (w .0) (w .1 .accepted) .2
+    counted-short = taken .short
 
     pub counted-header : 7 ≤ length f
-    counted-header = let w = counted-of n e in header-there f (w .0) (w .1 .accepted)
+    counted-header = header-there f (taken .us) (taken .ready .accepted)
 
     pub counted-most : n ≤ 512
-    counted-most = let w = counted-of n e in omega (arith, accepted one f (w .0) (w .1 .accepted) .0 .unitsMost, w .1 .many)
+    counted-most = omega (arith, accepted one f (taken .us) (taken .ready .accepted) .0 .unitsMost, many)
 
-    pub drawn-done : (m : ℕ) (live graph copies : List ℕ) → ((us : List ℕ) → Counted f us found words n → Whole f us m live graph copies) → GraphsIn f (Passes m) words live graph copies
-    drawn-done m live graph copies call =
-        let w = counted-of n e in drawn f (w .0) found words n m live graph copies (w .1) (call (w .0) (w .1))
+    pub drawn-done : (m : ℕ) (live graph copies : List ℕ) → ((us : List ℕ) → Counted f us found table words n → Whole f us m live graph copies) → GraphsIn f (Passes m) words live graph copies
+    drawn-done m live graph copies call = drawn f (counted-of .0) found table words n m live graph copies (counted-of .1) (call (counted-of .0) (counted-of .1))
 
 pub none : (a b c d : Bool) → a ≡ false → b ≡ false → c ≡ false → d ≡ false → (a or (b or (c or d))) ≡ false
 unfolding pick

@@ -10,8 +10,8 @@ use native.Mathlib.Nat.{not-suc-le-zero}
 use lib.Dec.{T, eqb, eqb→eq, eqb-refl, T-not, not-T}
 use lib.ListN.{length, getD}
 use Rattle.rows.proofs.Tests.{or-cases, or-l, or-r, and-l, and-r, and-in, T-true, T-false, T-yes, T-no}
-use Rattle.records.specs.Pick.{has}
-use Rattle.records.specs.Edition.{Edition}
+use Rattle.fields.specs.Pick.{has}
+use Rattle.fields.specs.Edition.{Edition}
 use Rattle.records.specs.Program.{Program}
 use Rattle.units.specs.Uses.{storageOf}
 use Rattle.passes.specs.Live as L

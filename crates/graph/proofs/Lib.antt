@@ -2,7 +2,6 @@ pub mod PairLaws
 pub mod StepLaws
 pub mod GraphLaws
 pub mod CopyLaws
-pub mod NumberLaws
 pub mod Anys
 pub mod Buffers
 pub mod Meeting

@@ -16,11 +16,11 @@ use Rattle.rows.proofs.Rows.{length-row, length-zip}
 use Rattle.rows.proofs.Digit.{bit-zero}
 use Rattle.rows.proofs.Members.{getD-none, words-none, member-row, member-or}
 use Rattle.rows.proofs.Pack.{length-pack, member-pack}
-use Rattle.records.specs.Pick.{pick, pick-yes, pick-no, has}
-use Rattle.records.specs.Edition.{Edition, one}
+use Rattle.fields.specs.Pick.{pick, pick-yes, pick-no, has}
+use Rattle.fields.specs.Edition.{Edition, one}
 use Rattle.records.specs.Outcome.{laid}
 use Rattle.records.specs.Program.{Function, Program}
-use Rattle.records.proofs.Front.{and-is}
+use Rattle.fields.proofs.Front.{and-is}
 use Rattle.units.specs.Sets.{select, any, each}
 use Rattle.units.specs.Uses.{storageOf, storagesOf, isInstruction}
 use Rattle.units.specs.Rows.{listed, unitRow}

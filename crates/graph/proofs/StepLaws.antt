@@ -1,20 +1,20 @@
--- The pairs of a step. A pair stands there where some written unit and some wanted unit have its two storages and clash; whether they clash depends on the
--- storages alone, so that code may keep storages where the definition speaks of units (`at-step`).
+-- The pairs of a step. A pair stands there where some written unit and some wanted unit have its two storages and clash, since the step's
+-- pairs are made of just these; whether they clash depends on the storages alone.
 use mathlib.Core.Path.{_≡_, sym, _∙_, subst}
 use mathlib.Core.Logic.{_⊎_, inl, inr}
-use mathlib.Core.Bool.{Bool, not, _&&_}
+use mathlib.Core.Bool.{Bool, _&&_}
 use mathlib.Core.List.{List, _++_, map, List·Memᴰ}
 use Prim.Native.Nat.{ℕ}
 use lib.Dec.{T, eqb, eqb→eq}
-use Rattle.rows.proofs.Tests.{antisym, or-cases, or-l, or-r, and-l, and-r, and-in}
-use Rattle.records.specs.Pick.{has}
-use Rattle.records.specs.Edition.{Edition}
+use Rattle.rows.proofs.Tests.{or-cases, or-l, or-r, and-l, and-r, and-in}
+use Rattle.fields.specs.Pick.{has}
+use Rattle.fields.specs.Edition.{Edition}
 use Rattle.units.specs.Sets.{select, any}
 use Rattle.units.specs.Uses.{storageOf}
 use Rattle.liveness.specs.Flow.{Use}
 use Rattle.liveness.proofs.SetLaws.{eqb-yes, any-select, any-map, any-out, any-in, any-same, has-mem, mem-has, has-append}
-use Rattle.graph.specs.Graph.{hasPair, inStorage, isCopy, spared, clash, clashesAt}
-use Rattle.graph.proofs.PairLaws.{pair-each, in-storage-in, in-storage-out}
+use Rattle.graph.specs.Graph.{hasPair, clash, clashesAt}
+use Rattle.graph.proofs.PairLaws.{pair-each}
 
 module _ (e : Edition) (s : Use) where
   abbrev both : ℕ → ℕ → ℕ → ℕ → Bool
@@ -79,46 +79,3 @@ module _ (e : Edition) (s : Use) where
       (any-in (λ v. clash e s (r .w) v && both i j (r .w) v) (want live (r .v) (r .wanted))
       (and-in (clash e s (r .w) (r .v)) (both i j (r .w) (r .v)) (r .clashes)
       (and-in (eqb (storageOf e (r .w)) i) (eqb (storageOf e (r .v)) j) (eqb-yes (storageOf e (r .w)) i (r .of-i)) (eqb-yes (storageOf e (r .v)) j (r .of-j))))))
-
-  -- In storages: each written storage meets each storage that is read there or live after, less itself and, at a copy, less the source.
-  abbrev apartFrom : ℕ → ℕ → Bool
-  apartFrom i j = not (eqb i j) && not (isCopy s && inStorage e (s .reads) j)
-
-  pub at-step : (live : List ℕ) (i j : ℕ)
-      → hasPair (clashesAt e s live) i j ≡ (inStorage e (s .writes) i && (inStorage e (s .reads ++ live) j && (not (eqb i j) && not (isCopy s && inStorage e (s .reads) j))))
-  unfolding spared
-  at-step live i j = antisym (hasPair (clashesAt e s live) i j) (inStorage e (s .writes) i && (near && apartFrom i j)) to from
-    where
-      near : Bool
-      near = inStorage e (s .reads ++ live) j
-
-      to : T (hasPair (clashesAt e s live) i j) → T (inStorage e (s .writes) i && (near && apartFrom i j))
-      to h =
-          and-in (inStorage e (s .writes) i) (near && apartFrom i j) (in-storage-in e (s .writes) i (has-mem (r .w) (s .writes) (r .writes)) (r .of-i))
-          (and-in near (apartFrom i j) (in-storage-in e (s .reads ++ live) j (want live (r .v) (r .wanted)) (r .of-j))
-          (subst (λ x. T (apartFrom i x)) (r .of-j) (subst (λ x. T (apartFrom x (storageOf e (r .v)))) (r .of-i) (r .clashes))))
-        where
-          r : Pair live i j
-          r = pair-out live i j h
-
-      from : T (inStorage e (s .writes) i && (near && apartFrom i j)) → T (hasPair (clashesAt e s live) i j)
-      from h =
-          pair-in live i j
-          (record {
-            w = w .0;
-            writes = mem-has (w .0) (s .writes) (w .1);
-            of-i = w .2;
-            v = v .0;
-            of-j = v .2;
-            clashes = subst (λ x. T (apartFrom x (storageOf e (v .0)))) (sym (w .2)) (subst (λ x. T (apartFrom i x)) (sym (v .2)) (and-r near (apartFrom i j) right));
-            wanted = unwant live (v .0) (v .1);
-          })
-        where
-          right : T (near && apartFrom i j)
-          right = and-r (inStorage e (s .writes) i) (near && apartFrom i j) h
-
-          w : (u : ℕ) × List·Memᴰ u (s .writes) × (storageOf e u ≡ i)
-          w = in-storage-out e (s .writes) i (and-l (inStorage e (s .writes) i) (near && apartFrom i j) h)
-
-          v : (u : ℕ) × List·Memᴰ u (s .reads ++ live) × (storageOf e u ≡ j)
-          v = in-storage-out e (s .reads ++ live) j (and-l near (apartFrom i j) right)

@@ -13,9 +13,9 @@ use lib.Seq.{getD-drop}
 use Rattle.rows.specs.Row.{row, put, orRow, lessRow}
 use Rattle.rows.proofs.Tests.{either}
 use Rattle.rows.proofs.Rows.{row-whole, put-whole, length-zip}
-use Rattle.records.specs.Pick.{pick, has}
-use Rattle.records.specs.Edition.{one}
-use Rattle.records.specs.Record.{u8At}
+use Rattle.fields.specs.Pick.{pick, has}
+use Rattle.fields.specs.Edition.{one}
+use Rattle.fields.specs.Record.{u8At}
 use Rattle.records.specs.Program.{Step, Function, program}
 use Rattle.units.specs.Sets.{less}
 use Rattle.units.specs.Uses.{isInstruction, reads, writes}

@@ -2,7 +2,7 @@
 -- summed, and the words those of the last function. A file has no more functions than bytes, so the sum stays small.
 use mathlib.Core.Path.{_≡_, refl, sym, ap, ap₂, _∙_, subst}
 use mathlib.Core.Logic.{_⊎_, inl, inr}
-use mathlib.Core.Bool.{true, false, true≢false}
+use mathlib.Core.Bool.{false, true≢false}
 use mathlib.Core.List.{List, [], _∷_, _++_, map, append-assoc, append-nil, List·Memᴰ, List·Memᴰ·head, Memᴰ·append-right}
 use Prim.Native.Nat.{ℕ, zero, suc, _+_, _-_, _*_, _≤_, _<_}
 use native.Mathlib.Omega.{arith}
@@ -12,15 +12,16 @@ use lib.ListN.{length, getD, drop, length-append, replicate, length-replicate}
 use Rattle.rows.specs.Row as W
 use Rattle.rows.proofs.Rows.{lt-or-ge, row-ext, row-whole, getD-put-in, getD-put-out}
 use Rattle.rows.proofs.Members.{getD-none}
-use Rattle.records.specs.Edition.{one}
+use Rattle.fields.specs.Edition.{one}
 use Rattle.records.specs.Check.{units, check}
 use Rattle.records.specs.Outcome.{laid}
-use Rattle.records.specs.Record.{Rec, function, recordAt, u8At, lengthOf, headerAt, instructionAt, terminatorAt}
+use Rattle.fields.specs.Record.{Rec, function, recordAt, u8At, lengthOf, headerAt, instructionAt, terminatorAt}
 use Rattle.records.specs.Program.{Function, Rest, put, putStep, program}
-use Rattle.records.proofs.Front.{read-whole}
-use Rattle.records.proofs.ByKind.{length-one, length-none, kind-header, kind-storage, kind-function, kind-abi, kind-block, kind-instruction, kind-operand, kind-terminator, kind-target, kind-end}
+use Rattle.fields.proofs.Front.{read-whole}
+use Rattle.fields.proofs.ByKind.{length-one, length-none, kind-header, kind-storage, kind-function, kind-abi, kind-block, kind-instruction, kind-operand, kind-terminator, kind-target, kind-end}
 use Rattle.units.specs.Sets.{each}
-use Rattle.units.specs.Along.{from, functionFrom, Stands, StandsAt, brought}
+use Rattle.records.specs.Index.{brought}
+use Rattle.units.specs.Along.{from, functionFrom, Stands, StandsAt}
 use Rattle.units.specs.declared.cursor.Cursor.{Cursor}
 use Rattle.units.proofs.Standing.{stands-start, stands-on}
 use Rattle.passes.specs.Passes.{blank, Held}

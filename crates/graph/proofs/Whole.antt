@@ -5,11 +5,9 @@ use mathlib.Core.List.{List, [], _∷_, _++_, map-append}
 use Prim.Native.Nat.{ℕ, _≤_}
 use native.Mathlib.Omega.{arith}
 use lib.ListN.{length, replicate}
-use Rattle.records.specs.Edition.{one}
-use Rattle.records.specs.Check.{units, check}
+use Rattle.fields.specs.Edition.{one}
 use Rattle.records.specs.Program.{Function, program}
 use Rattle.units.specs.Sets.{each}
-use Rattle.units.specs.Along.{Indexed}
 use Rattle.units.proofs.Standing.{units-most}
 use Rattle.passes.specs.Passes.{blank}
 use Rattle.liveness.specs.Flow.{Use, Flow, flows}
@@ -70,22 +68,22 @@ pub blank-is : (n : ℕ) → replicate n 0 ≡ blank n
 unfolding blank
 blank-is n = refl
 
-pub granted-all : (f us found table words rows : List ℕ) (count : ℕ) → Counted f us found words count → ((us : List ℕ) → check one f ≡ units us → Indexed f table)
+pub granted-all : (f us found table words rows : List ℕ) (count : ℕ) → Counted f us found table words count
     → rows ≡ unitRows words count (replicate 2048 0) → Granted f us found table words rows
-granted-all f us found table words rows count c i e = record {
-  ready = record { accepted = c .accepted; found-are = c .found-are; index = i us (c .accepted) };
-  numbered = record { few = units-most f us (c .accepted); words-are = c .words-are };
+granted-all f us found table words rows count c e = record {
+  ready = c .ready;
+  numbered = record { few = units-most f us (c .ready .accepted); words-are = c .words-are };
   rows = e ∙ ap (λ (n : ℕ). unitRows words n (replicate 2048 0)) (c .many);
 }
 
-pub whole-all : (f us found words : List ℕ) (count passes : ℕ) (rows meets copies addressed graph graph₁ graph′ : List ℕ) → Counted f us found words count
+pub whole-all : (f us found table words : List ℕ) (count passes : ℕ) (rows meets copies addressed graph graph₁ graph′ : List ℕ) → Counted f us found table words count
     → AllTaken f us passes rows meets copies addressed → graph ≡ blank 1024 → graph₁ ≡ closed meets words graph → graph′ ≡ heldBy f addressed graph₁
     → Whole f us passes rows graph′ copies
 unfolding blank
-whole-all f us found words count passes rows meets copies addressed graph graph₁ graph′ c t e p q = record {
+whole-all f us found table words count passes rows meets copies addressed graph graph₁ graph′ c t e p q = record {
   sums = t .sums;
   live = t .live;
   graph-is = q ∙ ap (heldBy f addressed) (p ∙ ap (closed meets words) e)
-      ∙ graph-is (program one f) f (record { few = units-most f us (c .accepted); words-are = c .words-are }) (t .noted .gathered) (addressed-all f us meets copies addressed (t .noted)) (declared-is f us (c .accepted));
+      ∙ graph-is (program one f) f (record { few = units-most f us (c .ready .accepted); words-are = c .words-are }) (t .noted .gathered) (addressed-all f us meets copies addressed (t .noted)) (declared-is f us (c .ready .accepted));
   copies-are = copies-all f us meets copies addressed (t .noted);
 }

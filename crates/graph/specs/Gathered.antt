@@ -6,8 +6,8 @@ use Prim.Native.Nat.{ℕ, _*_, _≤_, _<_}
 use lib.Dec.{ltb}
 use lib.ListN.{length, getD, replicate}
 use Rattle.rows.specs.Row.{Words, memberAt}
-use Rattle.records.specs.Pick.{has}
-use Rattle.records.specs.Edition.{Edition, one}
+use Rattle.fields.specs.Pick.{has}
+use Rattle.fields.specs.Edition.{Edition, one}
 use Rattle.records.specs.Outcome.{laid}
 use Rattle.records.specs.Program.{Program}
 use Rattle.units.specs.Sets.{any, each}

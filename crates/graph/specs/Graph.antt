@@ -3,9 +3,9 @@ use mathlib.Core.Bool.{Bool, not, _&&_, _||_}
 use mathlib.Core.List.{List, [], _∷_, _++_, map}
 use Prim.Native.Nat.{ℕ, _+_, min, max}
 use lib.Dec.{eqb}
-use Rattle.records.specs.Pick.{pick, has}
-use Rattle.records.specs.Edition.{Edition}
-use Rattle.records.specs.Record.{Storage}
+use Rattle.fields.specs.Pick.{pick, has}
+use Rattle.fields.specs.Edition.{Edition}
+use Rattle.fields.specs.Record.{Storage}
 use Rattle.records.specs.Program.{Function, Program}
 use Rattle.units.specs.Sets.{select, any, each}
 use Rattle.units.specs.Uses.{isInstruction, storageOf, storagesOf}

@@ -7,8 +7,8 @@ use Prim.Native.Nat.{ℕ, zero, suc, _+_, _*_}
 use lib.Dec.{ltb}
 use lib.ListN.{length, drop}
 use Rattle.rows.specs.Row.{pack}
-use Rattle.records.specs.Pick.{pick, _or_}
-use Rattle.records.specs.Edition.{Edition, one}
+use Rattle.fields.specs.Pick.{pick, _or_}
+use Rattle.fields.specs.Edition.{Edition, one}
 use Rattle.records.specs.Check.{Answer, units, refusal, check}
 use Rattle.records.specs.Outcome.{laid}
 use Rattle.records.specs.Program.{Function, Program, program}

@@ -5,8 +5,8 @@ use mathlib.Core.Bool.{true, false}
 use mathlib.Core.List.{List, _∷_, _++_, map, List·Memᴰ}
 use Prim.Native.Nat.{ℕ, _<_}
 use lib.ListN.{length}
-use Rattle.records.specs.Pick.{has}
-use Rattle.records.specs.Edition.{Edition}
+use Rattle.fields.specs.Pick.{has}
+use Rattle.fields.specs.Edition.{Edition}
 use Rattle.records.specs.Program.{Function, Program}
 use Rattle.units.specs.Uses.{storageOf}
 use Rattle.passes.specs.Live as L

@@ -7,9 +7,8 @@ use Prim.Native.Nat.{ℕ, _+_, _*_, _≤_, _<_}
 use lib.Dec.{eqb}
 use lib.ListN.{length, getD, take}
 use Rattle.rows.specs.Row.{row}
-use Rattle.records.specs.Pick.{pick}
-use Rattle.records.specs.Edition.{one}
-use Rattle.records.specs.Check.{units as unitsAre, check, numbers}
+use Rattle.fields.specs.Pick.{pick}
+use Rattle.fields.specs.Edition.{one}
 use Rattle.records.specs.Outcome.{laid}
 use Rattle.records.specs.Program.{Step, Function, program}
 use Rattle.units.specs.Sets.{less, each}
@@ -180,9 +179,8 @@ pub record AllTaken (f us : List ℕ) (passes : ℕ) (rows meets copies addresse
   pub live : rows ≡ lastLive one us (program one f) (program one f .functions)
 
 -- An accepted file whose units are numbered.
-pub record Counted (f us found words : List ℕ) (count : ℕ) : Type 0 where
-  pub accepted : check one f ≡ unitsAre us
-  pub found-are : take (length (numbers one f)) found ≡ numbers one f
+pub record Counted (f us found table words : List ℕ) (count : ℕ) : Type 0 where
+  pub ready : Ready f us found table
   pub words-are : words ≡ laid 512 us []
   pub many : count ≡ length us
 

@@ -30,11 +30,13 @@ fn graph_in(
     rows::clear(graph, 0, 1024);
     rows::clear(copies, 0, 1024);
     let mut numbers = [0u16; 2341];
-    match number_units(file, units, &mut numbers) {
+    let mut table = [0u16; 512];
+    match number_units(file, units, &mut numbers, &mut table) {
         Checked::Refused(r) => Graphed::Refused(r),
         Checked::Units(n) => Graphed::Passes(walk::graph_of(
             file,
             &numbers,
+            &table,
             units,
             n,
             live,

@@ -5,7 +5,7 @@ ghost use Prim.Native.Nat.{ℕ, _+_, _*_, _≤_, _<_};
 ghost use lib.Dec.{eqb, ltb};
 ghost use lib.ListN.{length};
 ghost use Rattle.rows.specs.Row.{orRow, lessRow};
-ghost use Rattle.records.specs.Pick.{pick};
+ghost use Rattle.fields.specs.Pick.{pick};
 ghost use Rattle.units.specs.Along.{Sound, Sane};
 ghost use Rattle.passes.specs.Passes.{blank, Held};
 ghost use Rattle.meetings.specs.Meeting.{met, copiesNoted, addressedNoted};
@@ -20,7 +20,6 @@ use meetings::meet::note_copies;
 use meetings::meet::unit_rows;
 use passes::settle;
 use units::cursor::Cursor;
-use units::index::index_functions;
 use units::uses::uses_at;
 
 // The words of a row of units.
@@ -445,20 +444,19 @@ fn take_functions(
 pub fn graph_of(
     file: &[u8],
     numbers: &[u16],
+    table: &[u16],
     words: &[u32],
     count: usize,
     rows: &mut [u64],
     graph: &mut [u64],
     copies: &mut [u64],
 ) -> usize
-    requires { ⌜ (length (now file) ≤ 16384) × (7 ≤ length (now file)) × (2341 ≤ length (now numbers)) × (length (now words) ≡ 512) × (count ≤ 512)
+    requires { ⌜ (length (now file) ≤ 16384) × (7 ≤ length (now file)) × (2341 ≤ length (now numbers)) × Sane (now table) × (length (now words) ≡ 512) × (count ≤ 512)
         × (now rows ≡ blank 2048) × (now graph ≡ blank 1024) × (now copies ≡ blank 1024)
-        × ((us : List ℕ) × Counted (now file) us (now numbers) (now words) count) ⌝ }
-    ensures { λ r. ⌜ ((us : List ℕ) → Counted (now (file .entry)) us (now (numbers .entry)) (now (words .entry)) count
+        × ((us : List ℕ) × Counted (now file) us (now numbers) (now table) (now words) count) ⌝ }
+    ensures { λ r. ⌜ ((us : List ℕ) → Counted (now (file .entry)) us (now (numbers .entry)) (now (table .entry)) (now (words .entry)) count
         → Whole (now (file .entry)) us r (now (rows .exit)) (now (graph .exit)) (now (copies .exit))) ⌝ }
 {
-    let mut table = [0u16; 512];
-    index_functions(file, &mut table);
     let mut units = [0u64; 2048];
     unit_rows(words, count, &mut units);
     let mut meets = [0u64; 2048];
@@ -466,7 +464,7 @@ pub fn graph_of(
     let passes = take_functions(
         file,
         numbers,
-        &table,
+        table,
         words,
         &units,
         rows,

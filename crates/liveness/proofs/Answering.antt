@@ -8,14 +8,14 @@ use Prim.Native.Nat.{ℕ, zero, suc, _+_, _≤_, _<_}
 use native.Mathlib.Omega.{arith}
 use borrow.Author.Tests.{ne-eqb, lt-ltb, le-ltb}
 use lib.Dec.{eqb}
-use lib.ListN.{length, getD, take, drop, replicate, length-replicate}
+use lib.ListN.{length, getD, drop, replicate, length-replicate}
 use lib.Seq.{getD-drop}
 use Rattle.rows.specs.Row as W
 use Rattle.rows.proofs.Rows as L
-use Rattle.records.specs.Pick.{pick, pick-no, _or_}
-use Rattle.records.specs.Edition.{one}
-use Rattle.records.specs.Record.{recordAt, u8At, lengthOf, headerAt, instructionAt, terminatorAt}
-use Rattle.records.specs.Check.{Answer, units, refusal, check, numbers}
+use Rattle.fields.specs.Pick.{pick, pick-no, _or_}
+use Rattle.fields.specs.Edition.{one}
+use Rattle.fields.specs.Record.{recordAt, u8At, lengthOf, headerAt, instructionAt, terminatorAt}
+use Rattle.records.specs.Check.{Answer, units, refusal, check}
 use Rattle.records.specs.Outcome.{laid, outcomeBy, Numbers}
 use Rattle.records.specs.Outcome as R
 use Rattle.records.specs.Program.{Function, Rest, functionOf, put, putStep, program}
@@ -23,11 +23,11 @@ use Rattle.records.specs.declared.Refusal.{Refusal}
 use Rattle.records.specs.declared.Refusal.the-variants.{Short, Absent}
 use Rattle.records.specs.declared.Checked.{Checked}
 use Rattle.records.specs.declared.Checked.the-variants as checked
-use Rattle.records.proofs.Front.{read-whole}
-use Rattle.records.proofs.ByKind.{length-none, kind-header, kind-storage, kind-function, kind-abi, kind-block, kind-instruction, kind-operand, kind-terminator, kind-target, kind-end}
+use Rattle.fields.proofs.Front.{read-whole}
+use Rattle.fields.proofs.ByKind.{length-none, kind-header, kind-storage, kind-function, kind-abi, kind-block, kind-instruction, kind-operand, kind-terminator, kind-target, kind-end}
 use Rattle.records.proofs.Outcomes.{laid-rest}
-use Rattle.records.proofs.Accepted.{accepted}
 use Rattle.units.specs.Along.{from, functionFrom, StandsAt, Indexed, Ready}
+use Rattle.units.proofs.Asking.{Accepted}
 use Rattle.units.specs.Uses.{Lookup, defined, missing, lookup}
 use Rattle.passes.specs.Passes.{blank}
 use Rattle.liveness.specs.Settle.{liveness}
@@ -107,24 +107,22 @@ module _ (f table : List ℕ) (number : ℕ) (own : Cursor) (o : Owned table num
 
 -- The ways out ---------------------------------------------------------------------------------------------------------------------------------
 
-module _ (f table : List ℕ) (number : ℕ) (own : Cursor) (o : Owned table number own) (bytes : (i : ℕ) → getD f i 0 < 256) (index : (us : List ℕ) → check one f ≡ units us → Indexed f table)
-    (us : List ℕ) (ok : check one f ≡ units us) where
+module _ (f table : List ℕ) (number : ℕ) (own : Cursor) (o : Owned table number own) (bytes : (i : ℕ) → getD f i 0 < 256) (us found : List ℕ) (ready : Ready f us found table) where
   pub lived-absent : (n : ℕ) (words live : List ℕ) → own .at ≡ 65535 → words ≡ replicate n 0 → n ≡ 512 → live ≡ blank 2048
       → record { answer = lived′.Refused (Absent number); units = words; live = live } ≡ livedBy one f number us [] [] (lookup (program one f .functions) number)
   unfolding laid blank
-  lived-absent n words live e c h l = rw (absent-there f table number own o bytes (index us ok) e, c, h, l)
+  lived-absent n words live e c h l = rw (absent-there f table number own o bytes (ready .index) e, c, h, l)
 
-  pub lived-passes : (passes : ℕ) (found words live : List ℕ) → (own .at ≡ 65535 → ⊥) → take (length (numbers one f)) found ≡ numbers one f → words ≡ laid 512 us []
+  pub lived-passes : (passes : ℕ) (words live : List ℕ) → (own .at ≡ 65535 → ⊥) → words ≡ laid 512 us []
       → ((us : List ℕ) (fn : Function) → Ready f us found table → StandsAt f own → List·Memᴰ fn (program one f .functions)
       → fn .abis ≡ from f (own .at) .abis → fn .blocks ≡ from f (own .at) .blocks
       → (passes ≡ liveness one (program one f) fn .passes) × (live ≡ liveWords one us (liveness one (program one f) fn .sets)))
       → record { answer = lived′.Passes passes; units = words; live = live } ≡ livedBy one f number us [] [] (lookup (program one f .functions) number)
-  lived-passes passes found words live n q w call =
-      let i = index us ok in
-      let p = present-there f table number own o bytes i n in
+  lived-passes passes words live n w call =
+      let p = present-there f table number own o bytes (ready .index) n in
       let fn = functionFrom f number (own .at) in
       let m = lookup-mem (program one f .functions) number fn (p .0) in
-      let r = call us fn (record { accepted = ok; found-are = q; index = i }) (p .1) m refl refl in
+      let r = call us fn ready (p .1) m refl refl in
       rw (p .0, w, r .0, r .1) (ap (λ (l : List ℕ). record { answer = lived′.Passes (liveness one (program one f) fn .passes); units = laid 512 us []; live = l }) (sym (append-nil (liveWords one us (liveness one (program one f) fn .sets)))))
 
 -- a buffer of just the needed words
@@ -132,42 +130,22 @@ pub blank-of : (live live′ : List ℕ) → length live ≡ 2048 → live′ �
 unfolding blank
 blank-of live live′ l e = e ∙ L.put-whole live (replicate 2048 0) (l ∙ sym (length-replicate {A = ℕ} 2048 0))
 
-module _ (f : List ℕ) (number : ℕ) (r : Checked) (words found : List ℕ) (h : Numbers f r words found) where
-  answered : record { answer = r; words = words } ≡ outcomeBy one [] (check one f)
-  answered = h .0
+pub lived-refused : (f : List ℕ) (number : ℕ) (r : Checked) (words found table : List ℕ) → Numbers f r words found table → (x : Refusal) (live : List ℕ) → r ≡ checked.Refused x → live ≡ blank 2048
+    → LivesIn f number (lived′.Refused x) words live
+unfolding laid blank
+lived-refused f number r words found table h x live e l = go (check one f) (h .0)
+  where
+    go : (a : Answer) → record { answer = r; words = words } ≡ outcomeBy one [] a → record { answer = lived′.Refused x; units = words; live = live } ≡ livedOf one f number [] [] a
+    go (units us) q = let z : _≡_ {A = ℕ} 0 1 = cc (ap (λ (o : R.Outcome). o .answer) q) in absurd (omega arith)
+    go (refusal y) q =
+        let i : x ≡ y = cc (ap (λ (o : R.Outcome). o .answer) q) in
+        rw (i, ap (λ (o : R.Outcome). o .words) q, l)
 
-  pub lived-refused : (x : Refusal) (live : List ℕ) → r ≡ checked.Refused x → live ≡ blank 2048 → LivesIn f number (lived′.Refused x) words live
-  unfolding laid blank
-  lived-refused x live e l = go (check one f) answered
-    where
-      go : (a : Answer) → record { answer = r; words = words } ≡ outcomeBy one [] a → record { answer = lived′.Refused x; units = words; live = live } ≡ livedOf one f number [] [] a
-      go (units us) q = let z : _≡_ {A = ℕ} 0 1 = cc (ap (λ (o : R.Outcome). o .answer) q) in absurd (omega arith)
-      go (refusal y) q =
-          let i : x ≡ y = cc (ap (λ (o : R.Outcome). o .answer) q) in
-          rw (i, ap (λ (o : R.Outcome). o .words) q, l)
-
-  record Went (n : ℕ) : Type 0 where
-    pub list : List ℕ
-    pub ok : check one f ≡ units list
-    pub are : words ≡ laid 512 list []
-
-  went : (n : ℕ) → r ≡ checked.Units n → Went n
-  went n e = go (check one f) refl answered
-    where
-      go : (a : Answer) → check one f ≡ a → record { answer = r; words = words } ≡ outcomeBy one [] a → Went n
-      go (units us) q w = record { list = us; ok = q; are = ap (λ (o : R.Outcome). o .words) w }
-      go (refusal y) q w = let z : _≡_ {A = ℕ} 0 1 = cc (ap (λ (o : R.Outcome). o .answer) w) in absurd (omega arith)
-
-  pub went-short : (n : ℕ) → r ≡ checked.Units n → length f ≤ 16384
-  went-short n e = let w = went n e in accepted one f (w .list) (w .ok) .2
-
-  pub lived-done : (n : ℕ) (answer : Lived) (words′ live : List ℕ) → r ≡ checked.Units n
-      → ((us : List ℕ) → check one f ≡ units us → take (length (numbers one f)) found ≡ numbers one f → words ≡ laid 512 us []
-      → record { answer = answer; units = words′; live = live } ≡ livedBy one f number us [] [] (lookup (program one f .functions) number))
-      → LivesIn f number answer words′ live
-  lived-done n answer words′ live e call =
-      let w = went n e in
-      call (w .list) (w .ok) (h .1 (w .list) (w .ok)) (w .are) ∙ ap (livedOf one f number [] []) (sym (w .ok))
+pub lived-done : (f : List ℕ) (number : ℕ) (words found table : List ℕ) → Accepted f number words found table → (answer : Lived) (words′ live : List ℕ)
+    → ((us : List ℕ) → Ready f us found table → words ≡ laid 512 us []
+    → record { answer = answer; units = words′; live = live } ≡ livedBy one f number us [] [] (lookup (program one f .functions) number))
+    → LivesIn f number answer words′ live
+lived-done f number words found table a answer words′ live call = call (a .us) (a .ready) (a .words-are) ∙ ap (livedOf one f number [] []) (sym (a .ready .accepted))
 
 neither : (a b : Bool) → a ≡ false → b ≡ false → (a or b) ≡ false
 unfolding pick

@@ -11,8 +11,8 @@ use lib.ListN.{length, getD, take, drop, set, length-take, length-drop, length-m
 use lib.Seq.{drop-cons, getD-take, getD-drop, getD-set-same, getD-set-other, ext-getD, length-take-le}
 use Rattle.rows.specs.Row.{row, put}
 use Rattle.rows.proofs.Rows.{lt-or-ge, row-whole, row-put-same, row-put-other}
-use Rattle.records.specs.Edition.{one}
-use Rattle.records.specs.Record.{block, u16At}
+use Rattle.fields.specs.Edition.{one}
+use Rattle.fields.specs.Record.{block, u16At}
 use Rattle.records.specs.Units.{numberIn}
 use Rattle.records.specs.Check.{units, check}
 use Rattle.records.specs.Program.{Block, Rest, Function, program, blockOf, put as putRec}

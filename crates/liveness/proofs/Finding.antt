@@ -10,7 +10,7 @@ use borrow.Author.Tests.{eq-eqb, ne-eqb}
 use lib.ListN.{length, getD, take, drop, set, drop-of-length-le}
 use lib.Seq.{drop-cons, getD-take, length-take-le, getD-set-same, getD-set-other}
 use Rattle.rows.proofs.Rows.{lt-or-ge}
-use Rattle.records.specs.Pick.{pick-yes, pick-no}
+use Rattle.fields.specs.Pick.{pick-yes, pick-no}
 use Rattle.records.specs.Units.{numberIn}
 
 pub record Searched (ids : List ℕ) (count id i : ℕ) : Type 0 where

@@ -10,9 +10,9 @@ use lib.Seq.{drop-set-add, take-suc-set, getD-drop, getD-set-same, getD-set-othe
 use Rattle.rows.specs.Row.{row, put, orRow, lessRow}
 use Rattle.rows.specs.Row as W
 use Rattle.rows.proofs.Rows.{row-whole, put-whole, length-zip}
-use Rattle.records.specs.Pick.{has}
-use Rattle.records.specs.Edition.{one}
-use Rattle.records.specs.Record.{u16At}
+use Rattle.fields.specs.Pick.{has}
+use Rattle.fields.specs.Edition.{one}
+use Rattle.fields.specs.Record.{u16At}
 use Rattle.records.specs.Check.{units, check}
 use Rattle.records.specs.Program.{Step, Rest, Function, program, put as putRec, putStep}
 use Rattle.units.specs.Sets.{less}

@@ -3,7 +3,6 @@ pub mod SettleLaws
 pub mod Numbered
 pub mod Rows
 pub mod UseLaws
-pub mod Blocks
 pub mod Onward
 pub mod Gathering
 pub mod Counting

@@ -1,7 +1,7 @@
 -- For code that holds units by number. What the passes do to a unit depends on that unit's reads and writes alone, and a number is read and written
 -- where its word is, because no word has two numbers and no number two words; so counts and live sets are the same, by numbers and by words.
 use mathlib.Core.Path.{_≡_, refl, sym, ap, ap₂, _∙_, subst}
-use mathlib.Core.Bool.{Bool, true, false, not, _&&_, _||_, true≢false}
+use mathlib.Core.Bool.{Bool, true, false, true≢false}
 use mathlib.Core.List.{List, [], _∷_, map, List·Memᴰ, List·Memᴰ·head, List·Memᴰ·tail, List·Memᴰ·not-nil, Memᴰ·map}
 use Prim.Native.Nat.{ℕ, suc, _+_, _≤_, _<_}
 use native.Mathlib.Omega.{arith}
@@ -10,20 +10,19 @@ use borrow.Author.Tests.{lt-ltb, le-ltb}
 use lib.Dec.{T}
 use lib.ListN.{length, getD, length-map, List·getD-map}
 use Rattle.rows.proofs.Tests.{antisym, T-true, T-false}
-use Rattle.records.specs.Pick.{pick-yes, pick-no, has}
+use Rattle.fields.specs.Pick.{pick-yes, pick-no, has}
 use Rattle.records.specs.Units.{numberIn}
 use Rattle.records.proofs.Range.{Distinct}
 use Rattle.records.proofs.Numbers.{number-low, number-at, at-has}
 use Rattle.records.proofs.Lists.{number-of}
-use Rattle.units.specs.Sets.{less}
 use Rattle.units.specs.Rows.{listed}
 use Rattle.passes.specs.Live as L
 use Rattle.passes.proofs.Laws.{live-in-iff, live-out-iff}
 use Rattle.passes.proofs.Renumber as R
 use Rattle.passes.proofs.Squash.{squash, squash-settled}
 use Rattle.liveness.specs.Flow.{Use, Flow, noFlow}
-use Rattle.liveness.specs.Settle.{stepView, view, views, before, flowAt, stateOf, settledBy}
-use Rattle.liveness.proofs.SetLaws.{mem-map, mem-at, has-mem, mem-has, has-join, has-less}
+use Rattle.liveness.specs.Settle.{stepView, view, views, flowAt, stateOf, settledBy}
+use Rattle.liveness.proofs.SetLaws.{mem-map, mem-at, has-mem, mem-has}
 use Rattle.liveness.proofs.SettleLaws.{settled, Read, path-read, block-read}
 
 -- The blocks with numbers for words: the number of a word is its place in the list of units.
@@ -89,20 +88,6 @@ module _ (us : List ℕ) where
       (λ h.
       let r = mem-map number l (has-mem n (map number l) h) in
       absurd (omega (arith, number-low (r .0) us (all (r .0) (T-true (has (r .0) l) (mem-has (r .0) l (r .1)))), r .2)))
-
--- Inside a block: after some steps m holds the numbers of l; then it does so before them.
-module _ (us : List ℕ) (w : ℕ) (q : has w us ≡ true) where
-  pub before-number : (ss : List Use) → ((s : Use) → List·Memᴰ s ss → Listed us s) → (l m : List ℕ) → has (numberIn w us) m ≡ has w l
-      → has (numberIn w us) (before (map (numberUse us) ss) m) ≡ has w (before ss l)
-  unfolding before
-  before-number [] all l m e = e
-  before-number (s ∷ ss) all l m e =
-      has-join (numberIn w us) (map (λ a. numberIn a us) (s .reads)) (less (before (map (numberUse us) ss) m) (map (λ a. numberIn a us) (s .writes)))
-      ∙ (ap₂ (λ x y. x || y) (has-number us (s .reads) (all s (List·Memᴰ·head refl) .reads) w q)
-      (has-less (numberIn w us) (before (map (numberUse us) ss) m) (map (λ a. numberIn a us) (s .writes))
-      ∙ (ap₂ (λ x y. x && not y) (before-number ss (λ x k. all x (List·Memᴰ·tail k)) l m e) (has-number us (s .writes) (all s (List·Memᴰ·head refl) .writes) w q)
-      ∙ sym (has-less w (before ss l) (s .writes))))
-      ∙ sym (has-join w (s .reads) (less (before ss l) (s .writes))))
 
 -- Two lists of blocks look alike to two units where each step reads the one where its twin reads the other, and writes alike.
 only-alike : (g : Use → Use) (u v : ℕ) (fs : List Flow)
@@ -209,10 +194,6 @@ module _ (us : List ℕ) (once : Distinct us) (fs : List Flow) (all : AllListed 
   -- The code's blocks: one row read first and one row written for each block, by numbers.
   pub rows-count : (count : ℕ) (s : L.State) → L.Settled (squash (views (numbered us fs))) count s → count ≡ settledBy fs .passes
   rows-count count s r = numbered-count count s (squash-settled (views (numbered us fs)) count s r)
-
-  pub rows-live : (count : ℕ) (s : L.State) → L.Settled (squash (views (numbered us fs))) count s → (w : ℕ) → has w us ≡ true → (k : ℕ)
-      → (s .ins k (numberIn w us) ≡ has w (getD (settledBy fs .sets .ins) k [])) × (s .outs k (numberIn w us) ≡ has w (getD (settledBy fs .sets .outs) k []))
-  rows-live count s r = numbered-live count s (squash-settled (views (numbered us fs)) count s r)
 
   pub rows-listed : (count : ℕ) (s : L.State) → L.Settled (squash (views (numbered us fs))) count s → (k : ℕ) → k < length fs → (n : ℕ)
       → (s .ins k n ≡ listed us (getD (settledBy fs .sets .ins) k []) n) × (s .outs k n ≡ listed us (getD (settledBy fs .sets .outs) k []) n)

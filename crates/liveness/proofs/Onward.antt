@@ -11,16 +11,17 @@ use lib.Dec.{eqb}
 use borrow.Author.Tests.{eqb-true}
 use lib.ListN.{length, getD, drop, drop-of-length-le, length-drop}
 use lib.Seq.{drop-drop, getD-drop}
-use Rattle.records.specs.Pick.{pick}
-use Rattle.records.specs.Edition.{one}
-use Rattle.records.specs.Record.{Operand, Rec, header, storage, function, abi, block, instruction, operand, terminator, target, end, Read, whole, fault, read, recordAt, u8At, u16At, lengthOf, headerAt, operandIn, instructionAt, terminatorAt}
+use Rattle.fields.specs.Pick.{pick}
+use Rattle.fields.specs.Edition.{one}
+use Rattle.fields.specs.Record.{Operand, Rec, header, storage, function, abi, block, instruction, operand, terminator, target, end, Read, whole, fault, read, recordAt, u8At, u16At, lengthOf, headerAt, operandIn, instructionAt, terminatorAt}
 use Rattle.records.specs.Check.{units, check, pieces, piecesBy, atTail, recordsIn, records}
 use Rattle.records.specs.Program.{Rest, empty, putStep, put, gather}
-use Rattle.records.proofs.Front.{read-whole, whole-read}
+use Rattle.fields.proofs.Front.{read-whole, whole-read}
 use Rattle.records.proofs.Reading.{no-body}
-use Rattle.records.proofs.ByKind.{length-one, length-some, length-none, kind-header, kind-storage, kind-function, kind-abi, kind-block, kind-instruction, kind-operand, kind-terminator, kind-target, kind-end}
+use Rattle.fields.proofs.ByKind.{length-one, length-some, length-none, kind-header, kind-storage, kind-function, kind-abi, kind-block, kind-instruction, kind-operand, kind-terminator, kind-target, kind-end}
 use Rattle.records.proofs.Contents.{rest, rest-nil, rest-whole}
-use Rattle.units.specs.Along.{from, stepFrom, IsStep, Stands, brought, broughtBy}
+use Rattle.records.specs.Index.{brought}
+use Rattle.units.specs.Along.{from, stepFrom, IsStep, Stands, broughtBy}
 use Rattle.liveness.specs.Walks.{BlockHere, Stopped, Sought, Stops, Paced, Came, Outer, Inner, Kind, Same}
 use Rattle.units.proofs.Standing.{brought-kind, stands-on}
 

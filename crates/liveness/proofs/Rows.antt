@@ -1,5 +1,5 @@
 -- Rows of words and sets of units. Bit n of a row is the set's answer for the n-th unit, so an operation on rows is the row of the operation on sets, by
--- what each of them holds; a unit has one number and a number one unit, so that a row tells a set of the file's units.
+-- what each of them holds; a unit has one number and a number one unit, so that a row's bit is the set's answer.
 use mathlib.Core.Path.{_≡_, refl, sym, ap, ap₂, _∙_}
 use mathlib.Core.Bool.{Bool, true, false, not, _&&_, _||_, and-or-distrib-left}
 use mathlib.Core.List.{List, _∷_, _++_}
@@ -11,19 +11,17 @@ use lib.Dec.{ltb, eqb, eqb→eq}
 use lib.ListN.{length, getD}
 use Rattle.rows.specs.Row.{Words, member, memberAt, withAt, orRow, lessRow}
 use Rattle.rows.proofs.Tests.{antisym}
-use Rattle.rows.proofs.Pack.{length-pack, pack-words, member-at-pack, pack-unique, pack-ext, pack-with-at, pack-or, pack-less}
-use Rattle.records.specs.Pick.{_and_, has}
-use Rattle.records.specs.Edition.{Edition}
+use Rattle.rows.proofs.Pack.{length-pack, member-at-pack, pack-unique, pack-ext, pack-with-at, pack-or, pack-less}
+use Rattle.fields.specs.Pick.{_and_, has}
+use Rattle.fields.specs.Edition.{Edition}
 use Rattle.records.specs.Units.{numberIn}
-use Rattle.records.proofs.Front.{and-is}
+use Rattle.fields.proofs.Front.{and-is}
 use Rattle.records.proofs.Range.{Distinct}
 use Rattle.records.proofs.Numbers.{number-low, number-at}
 use Rattle.records.proofs.Lists.{number-of}
 use Rattle.units.specs.Sets.{less}
 use Rattle.units.specs.Rows.{listed, unitRow}
-use Rattle.liveness.specs.Sets.{join}
-use Rattle.liveness.proofs.SetLaws.{eqb-yes, has-cons, has-append, has-less, has-join}
-use Rattle.liveness.proofs.Numbered.{Among, has-unlisted}
+use Rattle.liveness.proofs.SetLaws.{eqb-yes, has-cons, has-append, has-less}
 
 pub listed-is : (us set : List ℕ) (n : ℕ) → listed us set n ≡ (ltb n (length us) && has (getD us n 0) set)
 listed-is us set n = and-is (ltb n (length us)) (has (getD us n 0) set)
@@ -36,10 +34,6 @@ module _ (ed : Edition) (us : List ℕ) where
   pub row-length : (a : List ℕ) → length (unitRow ed us a) ≡ ed .unitWords
   unfolding unitRow
   row-length a = length-pack (ed .unitWords) (listed us a)
-
-  pub row-words : (a : List ℕ) → Words (unitRow ed us a)
-  unfolding unitRow
-  row-words a = pack-words (ed .unitWords) (listed us a)
 
   -- Equal sets have one row.
   pub row-same : (a b : List ℕ) → ((u : ℕ) → has u a ≡ has u b) → unitRow ed us a ≡ unitRow ed us b
@@ -62,9 +56,6 @@ module _ (ed : Edition) (us : List ℕ) where
           ap₂ (λ x y. x || y) (listed-is us a n) (listed-is us b n)
           ∙ (sym (and-or-distrib-left t (has u a) (has u b)) ∙ (ap (λ x. t && x) (sym (has-append u a b)) ∙ sym (listed-is us (a ++ b) n)))
 
-  pub row-join : (a b : List ℕ) → orRow (unitRow ed us a) (unitRow ed us b) ≡ unitRow ed us (join a b)
-  row-join a b = row-or a b ∙ row-same (a ++ b) (join a b) (λ u. has-append u a b ∙ sym (has-join u a b))
-
   pub row-less : (a b : List ℕ) → lessRow (unitRow ed us a) (unitRow ed us b) ≡ unitRow ed us (less a b)
   unfolding unitRow
   row-less a b = pack-less (ed .unitWords) (listed us a) (listed us b) ∙ pack-ext (ed .unitWords) (λ n. listed us a n && not (listed us b n)) (listed us (less a b)) (λ n _. one n)
@@ -84,14 +75,6 @@ module _ (ed : Edition) (us : List ℕ) where
     pub row-has : (a : List ℕ) (w : ℕ) → has w us ≡ true → memberAt (unitRow ed us a) 0 (numberIn w us) ≡ has w a
     unfolding unitRow
     row-has a w q = member-at-pack (ed .unitWords) (listed us a) (numberIn w us) (omega (arith, number-low w us q)) ∙ listed-number a w q
-
-    -- A row tells a set of the file's units.
-    pub row-tells : (a b : List ℕ) → Among a us → Among b us → unitRow ed us a ≡ unitRow ed us b → (u : ℕ) → has u a ≡ has u b
-    row-tells a b p q e u = go (has u us) refl
-      where
-        go : (t : Bool) → has u us ≡ t → has u a ≡ has u b
-        go true h = sym (row-has a u h) ∙ (ap (λ r. memberAt r 0 (numberIn u us)) e ∙ row-has b u h)
-        go false h = has-unlisted us a p u h ∙ sym (has-unlisted us b q u h)
 
     -- A unit put in by its number.
     pub row-with : (a : List ℕ) (w : ℕ) → Distinct us → has w us ≡ true → withAt (unitRow ed us a) 0 (numberIn w us) ≡ unitRow ed us (w ∷ a)

@@ -3,15 +3,15 @@
 use mathlib.Core.Path.{_≡_, refl, sym, ap, ap₂, _∙_, subst}
 use mathlib.Core.Logic.{_⊎_, inl, inr}
 use mathlib.Core.Bool.{Bool, true, false, not, _&&_, _||_, or-assoc, and-comm, and-false, and-or-distrib-left, or-self-left}
-use mathlib.Core.List.{List, [], _∷_, _++_, map, List·Memᴰ, List·Memᴰ·head, List·Memᴰ·tail, Memᴰ·append-left, Memᴰ·append-right}
+use mathlib.Core.List.{List, [], _∷_, _++_, map, List·Memᴰ, List·Memᴰ·head, List·Memᴰ·tail}
 use Prim.Native.Nat.{ℕ, zero, suc, _<_}
 use native.Mathlib.Omega.{arith}
 use native.Mathlib.Nat.{not-suc-le-zero}
 use lib.ListN.{length, getD}
 use lib.Dec.{T, eqb, ltb, eqb→eq, eqb-refl}
 use Rattle.rows.proofs.Tests.{antisym, or-cases, or-l, or-r, and-l, and-r, and-in}
-use Rattle.records.specs.Pick.{pick, _or_, has}
-use Rattle.records.proofs.Front.{or-is}
+use Rattle.fields.specs.Pick.{pick, _or_, has}
+use Rattle.fields.proofs.Front.{or-is}
 use Rattle.units.specs.Sets.{select, any, each, less}
 use Rattle.liveness.specs.Sets.{insert, join, every, within, sameSet}
 
@@ -97,11 +97,6 @@ module _ {A B : Type 0} where
   pub mem-map : (f : A → B) (l : List A) {b : B} → List·Memᴰ b (map f l) → (a : A) × List·Memᴰ a l × (b ≡ f a)
   mem-map f (a ∷ l) (List·Memᴰ·head e) = (a, List·Memᴰ·head refl, e)
   mem-map f (a ∷ l) (List·Memᴰ·tail m) = let r = mem-map f l m in (r .0, List·Memᴰ·tail (r .1), r .2)
-
-  pub mem-each : (f : A → List B) {a : A} {l : List A} {b : B} → List·Memᴰ a l → List·Memᴰ b (f a) → List·Memᴰ b (each f l)
-  unfolding each
-  mem-each f {b = b} (List·Memᴰ·head {x = x} {xs = l} e) m = Memᴰ·append-left (each f l) (subst (λ y. List·Memᴰ b (f y)) e m)
-  mem-each f (List·Memᴰ·tail {x = x} {xs = l} k) m = Memᴰ·append-right (f x) (mem-each f k m)
 
 pub mem-at : {A : Type 0} (l : List A) (k : ℕ) (d : A) → k < length l → List·Memᴰ (getD l k d) l
 mem-at [] k d h = absurd (not-suc-le-zero h)

@@ -3,7 +3,7 @@
 use mathlib.Core.Path.{_≡_, refl, sym, ap, ap₂, _∙_, subst}
 use mathlib.Core.Logic.{_↔_}
 use mathlib.Core.Bool.{Bool, true, false, not, _&&_, _||_, or-comm}
-use mathlib.Core.List.{List, [], _∷_, map, List·Memᴰ, List·Memᴰ·head, List·Memᴰ·tail, List·Memᴰ·not-nil}
+use mathlib.Core.List.{List, [], _∷_, map, List·Memᴰ, List·Memᴰ·head, List·Memᴰ·tail}
 use Prim.Native.Nat.{ℕ, zero, suc, _+_, _≤_, _<_}
 use native.Mathlib.Omega.{arith}
 use native.Mathlib.Nat.{not-suc-le-zero}
@@ -12,8 +12,8 @@ use lib.Dec.{T, ltb, ltb→lt, lt→ltb}
 use lib.ListN.{length, getD, set, replicate, length-set, length-replicate, length-map, List·getD-map, List·getD-eq-default}
 use lib.Seq.{getD-set-same, getD-set-other}
 use Rattle.rows.proofs.Tests.{and-l, and-r, and-in, T-true, T-false, T-yes}
-use Rattle.records.specs.Pick.{pick, has}
-use Rattle.records.specs.Edition.{Edition}
+use Rattle.fields.specs.Pick.{pick, has}
+use Rattle.fields.specs.Edition.{Edition}
 use Rattle.records.specs.Program.{Function, Program}
 use Rattle.units.specs.Sets.{less}
 use Rattle.passes.specs.Live as L
@@ -187,12 +187,6 @@ module _ (fs : List Flow) where
   pub settled-outs : length (settledBy fs .sets .outs) ≡ length fs
   settled-outs = settled-both .2
 
-  pub passes-are : (count : ℕ) (s : L.State) → L.Settled (views fs) count s → settledBy fs .passes ≡ count
-  passes-are count s r = settled-unique (views fs) _ _ _ _ settled r .0
-
-  pub sets-are : (count : ℕ) (s : L.State) → L.Settled (views fs) count s → stateOf (settledBy fs .sets) ≡ s
-  sets-are count s r = settled-unique (views fs) _ _ _ _ settled r .1
-
   -- The count is at most B + 2.
   pub passes-within : settledBy fs .passes ≤ length fs + 2
   passes-within = omega (arith, settles-within (views fs) _ _ settled, length-map fs view)
@@ -232,9 +226,6 @@ module _ (fs : List Flow) (u : ℕ) where
   path-read (L.reads-here {s = s} h) k = k s (List·Memᴰ·head refl) h
   path-read (L.goes-on _ r) k = path-read r (λ s m. k s (List·Memᴰ·tail m))
   path-read (L.jumps {t = t} m l r) k = path-read r (block-read t (omega (arith, length-map fs view)))
-
-  pub live-is-read : (k : ℕ) → k < length fs → has u (getD (settledBy fs .sets .outs) k []) ≡ true → Read fs u
-  live-is-read k l h = path-read (live-end fs u k l .0 h) (λ s m. absurd (List·Memᴰ·not-nil m))
 
 -- Of a function of a program ------------------------------------------------------------------------------------------------------------------------
 

@@ -14,8 +14,8 @@ use Rattle.rows.specs.Row.{member, memberAt, row}
 use Rattle.rows.proofs.Rows.{length-row, getD-row}
 use Rattle.rows.proofs.Members.{member-row, words-row}
 use Rattle.rows.proofs.Pack.{member-pack}
-use Rattle.records.specs.Pick.{has}
-use Rattle.records.specs.Edition.{one}
+use Rattle.fields.specs.Pick.{has}
+use Rattle.fields.specs.Edition.{one}
 use Rattle.records.specs.Units.{numberIn}
 use Rattle.records.specs.Program.{Function, program}
 use Rattle.records.proofs.Range.{Distinct}
@@ -26,7 +26,7 @@ use Rattle.units.specs.Rows.{listed, unitRow}
 use Rattle.units.specs.Along.{Ready}
 use Rattle.passes.specs.Live as L
 use Rattle.passes.specs.Passes as P
-use Rattle.passes.proofs.More as M
+use Rattle.passes.proofs.Transfer as M
 use Rattle.passes.proofs.Squash.{oneStep, squash}
 use Rattle.liveness.specs.Flow.{Use, Flow, noFlow, flows}
 use Rattle.liveness.specs.Settle.{Sets, stepView, view, views, flowAt, settledBy, liveness}

@@ -7,7 +7,7 @@ use Prim.Native.Nat.{ℕ, _+_, _≤_, _<_}
 use native.Mathlib.Omega.{arith}
 use lib.ListN.{length, getD, take, set}
 use lib.Seq.{getD-set-same}
-use Rattle.records.specs.Edition.{one}
+use Rattle.fields.specs.Edition.{one}
 use Rattle.records.specs.Units.{numberIn}
 use Rattle.records.specs.Program.{Step, Function, program}
 use Rattle.records.proofs.Shape.{BlocksFit}

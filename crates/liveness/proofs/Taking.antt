@@ -8,10 +8,10 @@ use native.Mathlib.Omega.{arith}
 use lib.ListN.{length, set, replicate}
 use lib.Seq.{getD-set-other}
 use Rattle.rows.specs.Row.{row, put}
-use Rattle.records.specs.Edition.{one}
-use Rattle.records.specs.Record.{u16At}
+use Rattle.fields.specs.Edition.{one}
+use Rattle.fields.specs.Record.{u16At}
 use Rattle.records.specs.Program.{Step, Function}
-use Rattle.records.proofs.ByKind.{length-one}
+use Rattle.fields.proofs.ByKind.{length-one}
 use Rattle.units.specs.Rows.{unitRow}
 use Rattle.units.specs.Along.{stepFrom, IsStep, Stands, StandsAt, Sound}
 use Rattle.passes.specs.Passes.{width}

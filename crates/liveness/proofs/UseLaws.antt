@@ -3,16 +3,16 @@
 use mathlib.Core.Path.{_≡_, refl, sym, ap, _∙_, subst}
 use mathlib.Core.Logic.{_⊎_, inl, inr}
 use mathlib.Core.Bool.{Bool, true, false, true≢false}
-use mathlib.Core.List.{List, [], _∷_, _++_, map, List·Memᴰ, List·Memᴰ·head, List·Memᴰ·tail, List·Memᴰ·not-nil}
+use mathlib.Core.List.{List, [], _∷_, map, List·Memᴰ, List·Memᴰ·head, List·Memᴰ·tail, List·Memᴰ·not-nil}
 use Prim.Native.Nat.{ℕ, _<_}
 use native.Mathlib.Omega.{arith}
 use native.Mathlib.Decide.{decLt}
 use lib.Dec.{T, eqb, eqb→eq}
 use lib.ListN.{length, getD, List·getD-eq-default}
 use Rattle.rows.proofs.Tests.{T-true, T-yes, or-cases}
-use Rattle.records.specs.Pick.{pick, pick-yes, _and_, has, All}
-use Rattle.records.specs.Edition.{Edition}
-use Rattle.records.specs.Record.{Abi, Operand, wordOf}
+use Rattle.fields.specs.Pick.{pick, pick-yes, _and_, has, All}
+use Rattle.fields.specs.Edition.{Edition}
+use Rattle.fields.specs.Record.{Abi, Operand, wordOf}
 use Rattle.records.specs.Check.{units, check}
 use Rattle.records.specs.Program.{Step, Block, Function, Program, program}
 use Rattle.records.proofs.Contents.{OperandIn, AbiIn, StepIn, BlockIn, FunctionIn}
@@ -21,21 +21,15 @@ use Rattle.records.proofs.Accepted.{accepted}
 use Rattle.units.specs.Sets.{select}
 use Rattle.units.specs.Uses.{isParameter, isResult, isOutcome, readsField, writesField, defined, lookup, abisBy, unitsIn, unitsOf, abisOf, reads, writes}
 use Rattle.passes.proofs.Squash.{getD-map}
-use Rattle.liveness.specs.Flow.{Use, Flow, noFlow, useOf, lastTargets, flowOf, flows}
+use Rattle.liveness.specs.Flow.{Use, Flow, noFlow, useOf, flowOf, flows}
 use Rattle.liveness.specs.Settle.{flowAt, settledBy}
 use Rattle.liveness.proofs.SetLaws.{has-nil, has-cons, mem-map, mem-at}
-use Rattle.liveness.proofs.SettleLaws.{settled-ins, settled-outs, live-entry, live-end, Read, path-read, block-read}
+use Rattle.liveness.proofs.SettleLaws.{settled-outs, live-end, Read, path-read}
 use Rattle.liveness.proofs.Numbered.{Among, Listed, AllListed}
 
 pub all-mem : {A : Type 0} (P : A → Type 0) (l : List A) → All P l → {a : A} → List·Memᴰ a l → P a
 all-mem P (x ∷ l) h (List·Memᴰ·head e) = subst P (sym e) (h .0)
 all-mem P (x ∷ l) h (List·Memᴰ·tail m) = all-mem P l (h .1) m
-
--- The targets of a block are those of its last step.
-pub last-targets : (ts : List ℕ) (ss : List Step) (s : Step) → lastTargets ts (ss ++ (s ∷ [])) ≡ s .targets
-unfolding lastTargets
-last-targets ts [] s = refl
-last-targets ts (x ∷ ss) s = last-targets (x .targets) ss s
 
 -- Block number k of a function, as the passes see it.
 pub flow-at : (ed : Edition) (p : Program) (f : Function) (k : ℕ) (b : Block) → k < length (f .blocks) → flowAt (flows ed p f) k ≡ flowOf ed p f (getD (f .blocks) k b)
@@ -138,13 +132,6 @@ module _ (us : List ℕ) where
   module _ (fs : List Flow) (all : AllListed us fs) where
     read-among : (u : ℕ) → Read fs u → has u us ≡ true
     read-among u (k, l, s, m, h) = all (flowAt fs k) (mem-at fs k noFlow l) s m .reads u (T-true (has u (s .reads)) h)
-
-    pub ins-among : (k : ℕ) → Among (getD (settledBy fs .sets .ins) k []) us
-    ins-among k u h = go (decLt k (length fs))
-      where
-        go : Dec (k < length fs) → has u us ≡ true
-        go (yes l) = read-among u (path-read fs u (live-entry fs u k l .0 h) (block-read fs u k l))
-        go (no l) = none-among u (ap (λ s. has u s) (sym (List·getD-eq-default (settledBy fs .sets .ins) [] (omega (arith, settled-ins fs)))) ∙ h)
 
     pub outs-among : (k : ℕ) → Among (getD (settledBy fs .sets .outs) k []) us
     outs-among k u h = go (decLt k (length fs))

@@ -2,7 +2,7 @@
 -- another, and the blocks where it may go on.
 use mathlib.Core.List.{List, [], _∷_, map}
 use Prim.Native.Nat.{ℕ}
-use Rattle.records.specs.Edition.{Edition}
+use Rattle.fields.specs.Edition.{Edition}
 use Rattle.records.specs.Units.{numberIn}
 use Rattle.records.specs.Program.{Step, Block, Function, Program}
 use Rattle.units.specs.Uses.{reads, writes}

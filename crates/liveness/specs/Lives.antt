@@ -5,8 +5,8 @@ use mathlib.Core.List.{List, [], _++_}
 use Prim.Native.Nat.{ℕ, zero, suc, _+_}
 use lib.Dec.{ltb}
 use lib.ListN.{length, getD, drop}
-use Rattle.records.specs.Pick.{pick, _or_}
-use Rattle.records.specs.Edition.{Edition, one}
+use Rattle.fields.specs.Pick.{pick, _or_}
+use Rattle.fields.specs.Edition.{Edition, one}
 use Rattle.records.specs.Check.{Answer, units, refusal, check}
 use Rattle.records.specs.Outcome.{laid}
 use Rattle.records.specs.Program.{program}

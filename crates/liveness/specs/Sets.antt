@@ -3,7 +3,7 @@ use mathlib.Core.Bool.{Bool, true, _&&_}
 use mathlib.Core.List.{List, [], _∷_}
 use Prim.Native.Nat.{ℕ}
 use lib.Dec.{ltb, eqb}
-use Rattle.records.specs.Pick.{pick, has}
+use Rattle.fields.specs.Pick.{pick, has}
 
 -- One number more. Lists that are built so rise and hold no number twice, which keeps them short where they compute; no law needs it.
 unfoldable pub insert : ℕ → List ℕ → List ℕ

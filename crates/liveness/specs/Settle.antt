@@ -3,8 +3,8 @@ use mathlib.Core.Bool.{Bool, true, false, _&&_}
 use mathlib.Core.List.{List, [], _∷_, map}
 use Prim.Native.Nat.{ℕ, zero, suc}
 use lib.ListN.{length, getD, set, replicate}
-use Rattle.records.specs.Pick.{pick, has}
-use Rattle.records.specs.Edition.{Edition}
+use Rattle.fields.specs.Pick.{pick, has}
+use Rattle.fields.specs.Edition.{Edition}
 use Rattle.records.specs.Program.{Function, Program}
 use Rattle.units.specs.Sets.{less}
 use Rattle.passes.specs.Live as L

@@ -5,7 +5,7 @@ use mathlib.Core.List.{List, [], _∷_, _++_}
 use Prim.Native.Nat.{ℕ, _+_, _*_, _≤_, _<_}
 use lib.ListN.{length, getD}
 use Rattle.rows.specs.Row.{row}
-use Rattle.records.specs.Edition.{one}
+use Rattle.fields.specs.Edition.{one}
 use Rattle.records.specs.Program.{Step, Block, Function, program}
 use Rattle.units.specs.Sets.{less}
 use Rattle.units.specs.Rows.{unitRow}

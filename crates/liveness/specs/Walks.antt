@@ -7,8 +7,8 @@ use mathlib.Core.List.{List, [], _++_, map}
 use Prim.Native.Nat.{ℕ, _+_, _*_, _≤_, _<_}
 use lib.ListN.{length, getD, drop}
 use Rattle.rows.specs.Row.{row}
-use Rattle.records.specs.Edition.{one}
-use Rattle.records.specs.Record.{lengthOf}
+use Rattle.fields.specs.Edition.{one}
+use Rattle.fields.specs.Record.{lengthOf}
 use Rattle.records.specs.Check.{units, check}
 use Rattle.records.specs.Program.{Step, Block, Function, program}
 use Rattle.units.specs.Rows.{unitRow}

@@ -5,9 +5,8 @@ pub mod survey;
 ghost use mathlib.Core.Path.{_≡_};
 ghost use mathlib.Core.List.{List, [], List·Memᴰ};
 ghost use Prim.Native.Nat.{ℕ, _≤_};
-ghost use lib.ListN.{length, take};
-ghost use Rattle.records.specs.Edition.{one};
-ghost use Rattle.records.specs.Check.{units as unitsOf, check, numbers as numbersOf};
+ghost use lib.ListN.{length};
+ghost use Rattle.fields.specs.Edition.{one};
 ghost use Rattle.records.specs.Outcome.{laid};
 ghost use Rattle.records.specs.Program.{Function, program};
 ghost use Rattle.units.specs.Along.{from, StandsAt, Sound, Sane, Ready};
@@ -22,7 +21,6 @@ use records::Checked;
 use records::Refusal;
 use records::number_units;
 use units::cursor::Cursor;
-use units::index::index_functions;
 
 // What the table of functions has for a number of no function.
 const NONE: usize = 65535;
@@ -84,21 +82,19 @@ fn live_of(
     number: usize,
     units: &mut [u32],
     numbers: &[u16],
+    table: &[u16],
     live: &mut [u64],
 ) -> Lived
-    requires { ⌜ (length (now file) ≤ 16384) × (2341 ≤ length (now numbers)) × (length (now units) ≡ 512) × (now live ≡ blank 2048) ⌝ }
-    ensures { λ r. ⌜ ((us : List ℕ) → check one (now (file .entry)) ≡ unitsOf us
-        → take (length (numbersOf one (now (file .entry)))) (now (numbers .entry)) ≡ numbersOf one (now (file .entry)) → now (units .entry) ≡ laid 512 us []
+    requires { ⌜ (length (now file) ≤ 16384) × (2341 ≤ length (now numbers)) × Sane (now table) × (length (now units) ≡ 512) × (now live ≡ blank 2048) ⌝ }
+    ensures { λ r. ⌜ ((us : List ℕ) → Ready (now (file .entry)) us (now (numbers .entry)) (now (table .entry)) → now (units .entry) ≡ laid 512 us []
         → record { answer = r; units = now (units .exit); live = now (live .exit) } ≡ livedBy one (now (file .entry)) number us [] [] (lookup (program one (now (file .entry)) .functions) number)) ⌝ }
 {
-    let mut table = [0u16; 512];
-    index_functions(file, &mut table);
-    let own = own_of(&table, number);
+    let own = own_of(table, number);
     if own.at == NONE {
         records::clear(units);
         return Lived::Refused(Refusal::Absent(number));
     }
-    Lived::Passes(passes_of(file, numbers, &table, own, live))
+    Lived::Passes(passes_of(file, numbers, table, own, live))
 }
 
 // The same of a file that is not checked yet.
@@ -108,9 +104,10 @@ fn live_in(file: &[u8], number: usize, units: &mut [u32], live: &mut [u64]) -> L
 {
     rows::clear(live, 0, 2048);
     let mut numbers = [0u16; 2341];
-    match number_units(file, units, &mut numbers) {
+    let mut table = [0u16; 512];
+    match number_units(file, units, &mut numbers, &mut table) {
         Checked::Refused(r) => Lived::Refused(r),
-        Checked::Units(_) => live_of(file, number, units, &numbers, live),
+        Checked::Units(_) => live_of(file, number, units, &numbers, &table, live),
     }
 }
 

@@ -5,7 +5,7 @@ ghost use mathlib.Core.Bool.{true, false};
 ghost use mathlib.Core.List.{List, [], _∷_, _++_, List·Memᴰ};
 ghost use Prim.Native.Nat.{ℕ, _+_, _*_, _≤_, _<_};
 ghost use lib.ListN.{length, getD, take};
-ghost use Rattle.records.specs.Edition.{one};
+ghost use Rattle.fields.specs.Edition.{one};
 ghost use Rattle.records.specs.Units.{numberIn};
 ghost use Rattle.records.specs.Program.{Step, Function, program};
 ghost use Rattle.units.specs.Rows.{unitRow};
@@ -13,10 +13,10 @@ ghost use Rattle.units.specs.Along.{from, stepFrom, IsStep, StandsAt, Sound, Sa
 ghost use Rattle.passes.specs.Passes.{Given};
 ghost use Rattle.liveness.specs.Survey.{readFirst, written, Surveyed};
 ghost use Rattle.liveness.specs.Walks.{BlockHere, FunctionHere, Stopped, Stops, Paced, Came, BlockNext, Inner, Outer, Kind, Same, Within, Asked, usesOf, Taken, Walked, Tallied, Grown};
-use records::bytes::length_of;
-use records::bytes::u16_at;
+use fields::bytes::length_of;
+use fields::bytes::u16_at;
 use units::cursor::Cursor;
-use units::index::brings;
+use units::cursor::brings;
 use units::uses::uses_at;
 
 // The most blocks of a function, and the words of a row.

@@ -15,7 +15,7 @@ use lib.Seq.{getD-set-same, getD-set-other, getD-drop}
 use borrow.Author.Tests.{eqb-true, eq-eqb, ltb-true, ltb-false, lt-ltb, le-ltb, leb-true, le-leb}
 use Rattle.rows.specs.Row.{bit}
 use Rattle.rows.proofs.Digit.{digit-low, digit-suc, bit-or, bit-zero, bit-pow-same, bit-pow-other}
-use Rattle.records.specs.Pick.{pick}
+use Rattle.fields.specs.Pick.{pick}
 use Rattle.maps.specs.declared.Found.{Found}
 use Rattle.maps.specs.declared.Found.the-variants.{Nothing, At}
 use Rattle.maps.specs.declared.FoundBit.{FoundBit}
@@ -118,12 +118,6 @@ window-only n m r h = go r h (firstWindow n m) (first-window n m)
         split (yes x) _ = absurd (f .2 o x (h .1))
         split (no x) (yes y) = absurd (h .2 p y (f .1))
         split (no x) (no y) = let e : o ≡ p = omega arith in ap At e
-
-pub window-is : (n o : ℕ) (m : List ℕ) → o < length m → o + n ≤ length m → Clear m n o → ((j : ℕ) → j < o → Clear m n j → ⊥) → firstWindow n m ≡ At o
-window-is n o m i l c h = sym (window-only n m (At o) (l, clear-in n o m l c, (λ j p t. h j p (clear-out n j m t)), i))
-
-pub no-window-is : (n : ℕ) (m : List ℕ) → 0 < n → ((j : ℕ) → j + n ≤ length m → Clear m n j → ⊥) → firstWindow n m ≡ Nothing
-no-window-is n m z h = sym (window-only n m Nothing (λ j l t. h j (omega (arith, clears-out n (drop j m) t .0, length-drop j m)) (clear-out n j m t)))
 
 -- ---- Clear rooms
 

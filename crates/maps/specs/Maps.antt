@@ -7,7 +7,7 @@ use lib.Dec.{ltb, leb, eqb}
 use lib.Bits.{bitOr}
 use lib.ListN.{length, getD, set, drop}
 use Rattle.rows.specs.Row.{bit}
-use Rattle.records.specs.Pick.{pick}
+use Rattle.fields.specs.Pick.{pick}
 use Rattle.maps.specs.declared.Found.{Found}
 use Rattle.maps.specs.declared.Found.the-variants.{Nothing, At}
 use Rattle.maps.specs.declared.FoundBit.{FoundBit}

@@ -11,14 +11,15 @@ use lib.Seq.{drop-drop}
 use borrow.Author.Tests.{eq-eqb, ne-eqb}
 use Rattle.rows.specs.Row.{memberAt, withAt, row}
 use Rattle.rows.proofs.Rows.{length-row}
-use Rattle.records.specs.Pick.{pick, pick-yes, pick-no, _and_}
-use Rattle.records.specs.Record.{Storage, u16At, storageIn}
+use Rattle.fields.specs.Pick.{pick, pick-yes, pick-no, _and_}
+use Rattle.fields.specs.Record.{Storage, u16At, storageIn}
 use Rattle.storages.specs.File.{opensStorage, storagesBy, declared}
 use Rattle.storages.proofs.Declared.{opens-inside}
 use Rattle.units.specs.Sets.{each}
-use Rattle.meetings.specs.Members.{members}
+use Rattle.meetings.specs.Members.{Filled, members}
 use Rattle.meetings.specs.Meeting.{storagesAt}
 use Rattle.meetings.specs.Closing.{linked, apart, apartAll, meetPairs, closed, ownPair, ownPairs}
+use Rattle.meetings.proofs.Firsts.{no-members}
 
 pub linked-append : (ps qs : List (ℕ × ℕ)) (g : List ℕ) → linked (ps ++ qs) g ≡ linked qs (linked ps g)
 unfolding linked
@@ -51,6 +52,11 @@ module _ (i j : ℕ) (g : List ℕ) where
 pub link-next : (i j : ℕ) (g g′ : List ℕ) → g′ ≡ linked (apart i j) g → (js : List ℕ) → linked (apartAll i (j ∷ js)) g ≡ linked (apartAll i js) g′
 unfolding apartAll each
 link-next i j g g′ e js = linked-append (apart i j) (apartAll i js) g ∙ sym (ap (linked (apartAll i js)) e)
+
+-- Of an empty row there is none.
+pub link-none : (i : ℕ) (words r g : List ℕ) (n : ℕ) → Filled r 0 n → length r ≤ n → g ≡ linked (apartAll i (storagesAt words (members r))) g
+unfolding linked apartAll each storagesAt
+link-none i words r g n f h = sym (ap (λ (ns : List ℕ). linked (apartAll i (storagesAt words ns)) g) (no-members r n f h))
 
 -- ---- all storages
 

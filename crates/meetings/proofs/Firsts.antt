@@ -15,8 +15,8 @@ use lib.ListN.{length, getD}
 use Rattle.rows.specs.Row.{Words, digit, bit, member}
 use Rattle.rows.proofs.Digit.{digit-low, digit-suc, bit-zero, half-lt}
 use Rattle.rows.proofs.Rows.{lt-or-ge}
-use Rattle.records.specs.Pick.{pick-yes, pick-no}
-use Rattle.meetings.specs.Members.{Lowest, Filled, First, membersFrom, ahead}
+use Rattle.fields.specs.Pick.{pick-yes, pick-no}
+use Rattle.meetings.specs.Members.{Lowest, Filled, First, membersFrom, ahead, members}
 
 -- ---- the lowest bit of a word
 
@@ -166,6 +166,14 @@ module _ {r : List ℕ} {from found : ℕ} (f : First r from found) where
 pub ahead-end : (r : List ℕ) (n : ℕ) → 64 * length r ≤ n → ahead r n ≡ []
 unfolding ahead membersFrom
 ahead-end r n h = let a : 64 * length r - n ≡ 0 = omega arith in ap (membersFrom r n) a
+
+-- A row whose words are all 0 holds no number.
+pub no-members : (r : List ℕ) (n : ℕ) → Filled r 0 n → length r ≤ n → members r ≡ []
+unfolding member
+no-members r n f h =
+    ahead-past r 0 (64 * length r) (omega arith) (omega arith)
+    (λ k a b. ap (λ (x : ℕ). bit x (k % 64)) (f .none (k / 64) (omega arith) (omega arith)) ∙ bit-zero (k % 64))
+    ∙ ahead-end r (64 * length r) (omega arith)
 
 -- ---- a word in hand: what is left of word n from number v on, shifted down
 

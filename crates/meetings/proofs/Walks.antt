@@ -10,7 +10,7 @@ use lib.ListN.{length, getD}
 use lib.Bits.{bitOr}
 use Rattle.rows.specs.Row.{Words, withAt, row, put, orRow, lessRow, less}
 use Rattle.rows.proofs.Rows.{length-row, length-zip, row-whole, put-whole}
-use Rattle.records.specs.Pick.{pick-yes, pick-no}
+use Rattle.fields.specs.Pick.{pick-yes, pick-no}
 use Rattle.units.specs.Sets.{each}
 use Rattle.meetings.specs.Members.{Lowest, First, ahead, members}
 use Rattle.meetings.specs.Meeting.{storageAt, storagesAt, paired, unitPairs, unitRows, lessRows, poured, wanted, met, pairsTo, copyPairs}

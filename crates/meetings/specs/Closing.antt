@@ -4,8 +4,8 @@ use mathlib.Core.List.{List, [], _∷_, _++_}
 use Prim.Native.Nat.{ℕ, zero, suc, _*_}
 use lib.Dec.{eqb, ltb}
 use Rattle.rows.specs.Row.{memberAt, withAt, row}
-use Rattle.records.specs.Pick.{pick, _and_}
-use Rattle.records.specs.Record.{Storage}
+use Rattle.fields.specs.Pick.{pick, _and_}
+use Rattle.fields.specs.Record.{Storage}
 use Rattle.storages.specs.File.{declared}
 use Rattle.units.specs.Sets.{each}
 use Rattle.meetings.specs.Members.{members}

@@ -5,8 +5,8 @@ use mathlib.Core.List.{List, [], _∷_, map}
 use Prim.Native.Nat.{ℕ, zero, suc, _*_, min, max}
 use lib.ListN.{getD}
 use Rattle.rows.specs.Row.{withAt, row, put, orRow, lessRow}
-use Rattle.records.specs.Pick.{pick}
-use Rattle.records.specs.Edition.{one}
+use Rattle.fields.specs.Pick.{pick}
+use Rattle.fields.specs.Edition.{one}
 use Rattle.units.specs.Sets.{each}
 use Rattle.units.specs.Uses.{storageOf}
 use Rattle.meetings.specs.Members.{members}

@@ -5,7 +5,7 @@ use mathlib.Core.List.{List, [], _∷_}
 use Prim.Native.Nat.{ℕ, zero, suc, _*_, _-_, _≤_, _<_}
 use lib.ListN.{length, getD}
 use Rattle.rows.specs.Row.{bit, member}
-use Rattle.records.specs.Pick.{pick}
+use Rattle.fields.specs.Pick.{pick}
 
 -- The lowest bit of a word that is set.
 pub record Lowest (w k : ℕ) : Type 0 where

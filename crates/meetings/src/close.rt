@@ -5,8 +5,8 @@ ghost use Prim.Native.Nat.{_+_, _*_, _≤_, _<_};
 ghost use lib.Dec.{eqb, ltb};
 ghost use lib.ListN.{length};
 ghost use Rattle.rows.specs.Row.{row, memberAt};
-ghost use Rattle.records.specs.Pick.{pick, _and_};
-ghost use Rattle.records.specs.Record.{storageIn};
+ghost use Rattle.fields.specs.Pick.{pick, _and_};
+ghost use Rattle.fields.specs.Record.{storageIn};
 ghost use Rattle.storages.specs.File.{declared};
 ghost use Rattle.units.specs.Sets.{each};
 ghost use Rattle.meetings.specs.Members.{ahead, members};
@@ -14,8 +14,9 @@ ghost use Rattle.meetings.specs.Meeting.{storagesAt};
 ghost use Rattle.meetings.specs.Closing.{linked, apart, apartAll, closed, ownPair, ownPairs, heldBy};
 use crate::meet::storage_of;
 use crate::members::low_bit;
-use records::bytes::tail_of;
-use records::bytes::u16_at;
+use crate::members::next_word;
+use fields::bytes::tail_of;
+use fields::bytes::u16_at;
 use storages::opens_storage;
 
 // The row of units at `base`.
@@ -55,11 +56,15 @@ pub fn close_word(row: &[u64], n: usize, words: &[u32], graph: &mut [u64], i: us
     }
 }
 
-// Storage i with the storage of each unit that it meets, which `row` holds.
+// Storage i with the storage of each unit that it meets, which `row` holds. Most ids are declared nowhere and meet nothing, so an empty row is passed over
+// at once.
 pub fn close_row(row: &[u64], words: &[u32], graph: &mut [u64], i: usize)
     requires { ⌜ (length (now row) ≡ 8) × (length (now words) ≡ 512) × (length (now graph) ≡ 1024) × (i < 256) ⌝ }
     ensures { λ _. ⌜ now (graph .exit) ≡ linked (apartAll i (storagesAt (now (words .entry)) (members (now (row .entry))))) (now (graph .entry)) ⌝ }
 {
+    if next_word(row, 0) == 8 {
+        return;
+    }
     for n in 0..8 {
         close_word(row, n, words, graph, i);
     }

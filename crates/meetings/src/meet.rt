@@ -3,7 +3,7 @@ ghost use mathlib.Core.Path.{_≡_};
 ghost use Prim.Native.Nat.{_*_, _≤_, _<_, min, max};
 ghost use lib.ListN.{length};
 ghost use Rattle.rows.specs.Row.{withAt, orRow};
-ghost use Rattle.records.specs.Edition.{one};
+ghost use Rattle.fields.specs.Edition.{one};
 ghost use Rattle.units.specs.Uses.{storageOf};
 ghost use Rattle.meetings.specs.Members.{members};
 ghost use Rattle.meetings.specs.Meeting.{storagesAt, paired, unitRows, lessRows, poured, wanted, met, pairsTo, copiesNoted, addressedNoted};

@@ -1,5 +1,5 @@
--- The theorems on liveness. `settles-within` (a): the pass count is at most the number of blocks plus 2 (and `settled-exists` of More.antt: there is one;
--- `settled-unique`: only one). `live-in-iff` (b): in the settled state a unit is live at a block's entry exactly where some path reads it before writing it
+-- The theorems on liveness. `settles-within` (a): the pass count is at most the number of blocks plus 2 (`settled-unique`: there is only one).
+-- `live-in-iff` (b): in the settled state a unit is live at a block's entry exactly where some path reads it before writing it
 -- (`live-out-iff`, `live-inside`: the same at its end and at any place inside). `changes-early`, `visit-shows`, `visit-same`: for the code's loops. Assumes nothing.
 use mathlib.Core.Path.{_≡_, refl, sym, ap, _∙_, subst, fun-ext}
 use mathlib.Core.Logic.{_↔_, _⊎_, inl, inr}
@@ -12,7 +12,7 @@ use native.Mathlib.Decide.{ℕ-discrete, decLt}
 use lib.Dec.{T, ltb, eqb, ltb→lt, lt→ltb, eqb→eq, eqb-refl}
 use lib.ListN.{length}
 use Rattle.rows.proofs.Tests.{or-cases, or-l, or-r, and-l, and-r, and-in, antisym}
-use Rattle.records.specs.Pick.{pick}
+use Rattle.fields.specs.Pick.{pick}
 use Rattle.passes.specs.Live.{Row, Step, Block, State, empty, block, put, union, backwards, visit, sweep, pass, after, Settled, Reads, reads-here, goes-on, jumps, ReadsFrom, ReadsAfter}
 
 -- What stands at j after `put`: the row that was put, or what stood there.

@@ -1,5 +1,5 @@
 pub mod Laws
-pub mod More
+pub mod Transfer
 pub mod Renumber
 pub mod Squash
 pub mod Passing

@@ -12,17 +12,17 @@ use native.Mathlib.Decide.{ℕ-discrete}
 use lib.Dec.{ltb, lit<}
 use lib.Bits.{bitOr}
 use lib.ListN.{length, getD, replicate, length-replicate}
-use lib.Seq.{drop-cons, ext-getD}
+use lib.Seq.{drop-cons}
 use borrow.Author.Tests.{lt-ltb, le-ltb, ltb-true, ltb-false, not-true, not-false}
 use Rattle.rows.specs.Row.{Apart, Words, bit, less, member, memberAt, row, put, orRow, lessRow, sameRow}
 use Rattle.rows.proofs.Tests.{either}
 use Rattle.rows.proofs.Digit.{bit-zero}
-use Rattle.rows.proofs.Rows.{lt-or-ge, length-row, length-row-le, row-whole, length-zip, length-put, getD-put-out, row-put-same, row-put-other, put-whole, same-refl, same-true, strides-apart, row-word}
+use Rattle.rows.proofs.Rows.{length-row, length-row-le, row-whole, length-zip, length-put, getD-put-out, row-put-same, row-put-other, put-whole, same-refl, same-true, strides-apart}
 use Rattle.rows.proofs.Members.{member-row, member-past, member-or, member-less, member-none, getD-none, words-none, words-row, words-or, words-less, words-put, rows-ext}
-use Rattle.records.specs.Pick.{pick}
+use Rattle.fields.specs.Pick.{pick}
 use Rattle.passes.specs.Live.{Row, Block, State, noBlock, block, empty, union, backwards, visit, sweep, pass, after, Settled}
 use Rattle.passes.specs.Passes.{width, outBase, unitsAt, part, targetsOf, blockOf, listed, blocksOf, stateOf, blank, Given, Held, Solved, Passed, joined, joinedAll, outRow, inRow, visited, differs}
-use Rattle.passes.proofs.Laws.{put-cases, put-other, state-ext, changes-early, visit-shows, visit-same, settled-unique}
+use Rattle.passes.proofs.Laws.{put-cases, put-other, state-ext, changes-early, visit-shows, visit-same}
 
 -- ---- the live-in rows of the targets, one a turn
 
@@ -584,16 +584,6 @@ pub cleared : (ws : List ℕ) → length ws ≡ 2048 → put ws 0 (replicate 204
 unfolding blank
 cleared ws e = put-whole ws (blank 2048) (e ∙ sym (blank-len 2048))
 
--- A unit of the live sets is a bit of the buffer.
-module _ (live : List ℕ) (count k : ℕ) (h : k < count) (u : ℕ) (g : u < 64 * width) where
-  pub live-in-bit : stateOf live count .ins k u ≡ memberAt live (k * width) u
-  unfolding stateOf unitsAt
-  live-in-bit = rw (lt-ltb k count h, lt-ltb u (64 * width) g)
-
-  pub live-out-bit : stateOf live count .outs k u ≡ memberAt live (outBase + k * width) u
-  unfolding stateOf unitsAt
-  live-out-bit = rw (lt-ltb k count h, lt-ltb u (64 * width) g)
-
 -- The contract of `settle` decides both its answer and every word of the buffer.
 module _ (count : ℕ) (few : count ≤ 128) (a b : List ℕ) (ha : Held a count) (hb : Held b count) (e : stateOf a count ≡ stateOf b count) where
   same-in : (j : ℕ) → j < count → row a (j * width) width ≡ row b (j * width) width
@@ -605,31 +595,3 @@ module _ (count : ℕ) (few : count ≤ 128) (a b : List ℕ) (ha : Held a count
   unfolding stateOf
   same-out j h =
       row-of-set count j (outBase + j * width) h a b (omega (arith, ha .len)) (omega (arith, hb .len)) (ha .words) (hb .words) (ap (λ (s : State). s .outs j) e)
-
-  same-low : (i : ℕ) → i < outBase → getD a i 0 ≡ getD b i 0
-  same-low i l =
-      ⊎-elim
-      (λ (h : i < count * width).
-      let q : i / width * width + i % width ≡ i = omega arith in
-      subst (λ (x : ℕ). getD a x 0 ≡ getD b x 0) q (row-word a b (i / width * width) (i / width * width) width (same-in (i / width) (omega arith)) (i % width) (omega arith)))
-      (λ (h : count * width ≤ i). ha .past-ins i h l ∙ sym (hb .past-ins i h l))
-      (lt-or-ge i (count * width))
-
-  same-high : (i : ℕ) → outBase ≤ i → getD a i 0 ≡ getD b i 0
-  same-high i l =
-      ⊎-elim
-      (λ (h : i < outBase + count * width).
-      let q : outBase + (i - outBase) / width * width + (i - outBase) % width ≡ i = omega arith in
-      subst (λ (x : ℕ). getD a x 0 ≡ getD b x 0) q
-      (row-word a b (outBase + (i - outBase) / width * width) (outBase + (i - outBase) / width * width) width (same-out ((i - outBase) / width) (omega arith)) ((i - outBase) % width) (omega arith)))
-      (λ (h : outBase + count * width ≤ i). ha .past-outs i h ∙ sym (hb .past-outs i h))
-      (lt-or-ge i (outBase + count * width))
-
-  pub same-buffer : a ≡ b
-  same-buffer = ext-getD 0 a b (ha .len ∙ sym (hb .len)) (λ i _. ⊎-elim (same-low i) (same-high i) (lt-or-ge i outBase))
-
-pub solved-unique : (gens kills targets starts : List ℕ) (count r q : ℕ) (a b : List ℕ) → count ≤ 128
-    → Solved gens kills targets starts count r a → Solved gens kills targets starts count q b → (r ≡ q) × (a ≡ b)
-solved-unique gens kills targets starts count r q a b few x y =
-    let u = settled-unique (blocksOf gens kills targets starts count) r q (stateOf a count) (stateOf b count) (x .settled) (y .settled) in
-    (u .0, same-buffer count few a b (x .held) (y .held) (u .1))

@@ -6,7 +6,7 @@ use mathlib.Core.List.{List, [], _∷_, map}
 use Prim.Native.Nat.{ℕ, zero, suc}
 use lib.Dec.{ltb, eqb}
 use lib.ListN.{length, length-map, List·getD-map}
-use Rattle.records.specs.Pick.{pick}
+use Rattle.fields.specs.Pick.{pick}
 use Rattle.passes.specs.Live.{Row, Step, Block, State, noBlock, block, put, union, backwards, visit, sweep, pass, after, Settled}
 use Rattle.passes.proofs.Laws.{state-ext, settled-unique}
 

@@ -8,7 +8,7 @@ use native.Mathlib.Omega.{arith}
 use native.Mathlib.Nat.{not-suc-le-zero}
 use lib.ListN.{length, getD, length-map}
 use Rattle.passes.specs.Live as L
-use Rattle.passes.proofs.More as M
+use Rattle.passes.proofs.Transfer as M
 
 -- a block whose one step reads what the block reads before writing it, and writes what the block writes
 abbrev pub oneStep : L.Block → L.Block

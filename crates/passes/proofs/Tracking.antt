@@ -13,7 +13,7 @@ use lib.Seq.{getD-set-same, getD-set-other}
 use borrow.Author.Tests.{lt-ltb, le-ltb, ltb-true, not-true}
 use Rattle.rows.specs.Row.{row, put, orRow}
 use Rattle.rows.proofs.Rows.{lt-or-ge, put-row, same-refl}
-use Rattle.records.specs.Pick.{pick}
+use Rattle.fields.specs.Pick.{pick}
 use Rattle.passes.specs.Passes.{width, outBase, part, targetsOf, blank, Given, Overtaken, Tracked, joined, joinedAll, outRow, inRow, visited, differs, leads}
 use Rattle.passes.proofs.Passing.{part-step, part-end, visited-in, visited-out, visited-len, visited-other, neither, rows-same}
 

@@ -10,7 +10,7 @@ use lib.Dec.{T, eqb, ltb}
 use lib.ListN.{length, getD}
 use borrow.Author.Tests.{le-ltb}
 use Rattle.rows.proofs.Tests.{T-yes, T-no}
-use Rattle.records.specs.Pick.{pick, pick-no, _and_, _or_}
+use Rattle.fields.specs.Pick.{pick, pick-no, _and_, _or_}
 use Rattle.records.specs.declared.Refusal.{Refusal}
 use Rattle.storages.specs.declared.Placement.{Placement}
 use Rattle.storages.specs.declared.Placement.the-variants.{CarryFlag, ApplicationBit, ShadowStack, ShadowStackBit, WorkRamBit, WorkRam}
@@ -33,7 +33,7 @@ use Rattle.places.specs.declared.choose.Chosen.{Chosen}
 use Rattle.places.specs.declared.choose.Chosen.the-variants.{Spot, Refused}
 use Rattle.places.specs.Memory.{Maps, mapOf, clearRoom}
 use Rattle.places.specs.Place.{Given, chooseFixed, fitted, nameBit, nameBytes, workBit, appBit, chooseBit, workBytes, appBytes, chooseBytes, chooseFree, chooseBy, choose}
-use Rattle.places.specs.Legal.{rightForm, LegalBy, Legal, Inside, Small, FixedSmall}
+use Rattle.places.specs.Legal.{rightForm, LegalBy, Inside, Small, FixedSmall}
 use Rattle.places.proofs.Tests.{and-l, and-r, and-in, or-cases, or-r}
 use Rattle.places.proofs.Rooms.{clear-inside}
 
@@ -169,12 +169,6 @@ module _ (g : Given) (s : Storage) (m : Maps) where
       go : (x : Fixed) → FixedSmall (s .len) x → Good (Sits x) (chooseBy g s m x)
       go fixed.Free b = choose-free l
       go (fixed.At q) b = choose-fixed q b
-
-  pub choose-clear : g .hi ≤ length (m .app) → FixedSmall (s .len) (s .fixed) → Good (λ p. T (clearRoom m (room (s .len) p))) (choose g s m)
-  choose-clear l b = good-map (Sits (s .fixed)) (λ p. T (clearRoom m (room (s .len) p))) (λ p h. h .0) (choose g s m) (choose-sits l b)
-
-  pub choose-legal : g .hi ≤ length (m .app) → FixedSmall (s .len) (s .fixed) → Good (Legal s) (choose g s m)
-  choose-legal l b = good-map (Sits (s .fixed)) (Legal s) (λ p h. h .2) (choose g s m) (choose-sits l b)
 
   pub choose-inside : g .hi ≤ length (m .app) → FixedSmall (s .len) (s .fixed) → Good (λ p. Inside (length (m .app)) (length (m .wrk)) (room (s .len) p)) (choose g s m)
   choose-inside l b =

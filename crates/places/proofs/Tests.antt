@@ -8,7 +8,7 @@ use Prim.Native.Nat.{ℕ, zero, suc, _<_}
 use native.Mathlib.Nat.{not-suc-le-zero, le-of-suc-le-suc}
 use lib.Dec.{T, eqb, eqb→eq}
 use lib.ListN.{length, getD}
-use Rattle.records.specs.Pick.{pick, _and_, _or_, All}
+use Rattle.fields.specs.Pick.{pick, _and_, _or_, All}
 use Rattle.units.specs.Sets.{any}
 use Rattle.places.specs.Legal.{Pairs}
 

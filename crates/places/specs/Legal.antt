@@ -4,7 +4,7 @@ use mathlib.Core.Bool.{Bool, not}
 use mathlib.Core.List.{List, [], _∷_}
 use Prim.Native.Nat.{ℕ, _+_, _≤_, _<_}
 use lib.Dec.{T, eqb}
-use Rattle.records.specs.Pick.{pick, _and_, _or_, All}
+use Rattle.fields.specs.Pick.{pick, _and_, _or_, All}
 use Rattle.storages.specs.declared.Placement.{Placement}
 use Rattle.storages.specs.declared.Fixed.{Fixed}
 use Rattle.storages.specs.declared.Fixed.the-variants.{Free, At}

@@ -4,7 +4,7 @@ use mathlib.Core.List.{List, [], _∷_, _++_}
 use Prim.Native.Nat.{ℕ, _/_, _%_, min, max}
 use lib.Dec.{ltb, eqb}
 use lib.ListN.{length, getD, set}
-use Rattle.records.specs.Pick.{pick, _and_, _or_}
+use Rattle.fields.specs.Pick.{pick, _and_, _or_}
 use Rattle.records.specs.declared.Refusal.{Refusal}
 use Rattle.records.specs.declared.Refusal.the-variants.{ApplicationFull, WorkFull, NoPlace, BadFixed, Conflict, Misfit}
 use Rattle.storages.specs.declared.Placement.{Placement}

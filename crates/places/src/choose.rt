@@ -3,7 +3,7 @@ ghost use mathlib.Core.Path.{_≡_};
 ghost use Prim.Native.Nat.{_≤_, _<_};
 ghost use lib.Dec.{eqb};
 ghost use lib.ListN.{length};
-ghost use Rattle.records.specs.Pick.{_and_, _or_};
+ghost use Rattle.fields.specs.Pick.{_and_, _or_};
 ghost use Rattle.storages.specs.Storage.{aCarry, carryFlag, allows, alone};
 ghost use Rattle.storages.specs.Room.{room};
 ghost use Rattle.maps.specs.Maps.{FoundIn, BitIn};

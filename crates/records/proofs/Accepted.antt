@@ -9,11 +9,11 @@ use native.Mathlib.Omega.{arith}
 use lib.Dec.{ltb, eqb}
 use lib.ListN.{length, length-append, length-map}
 use borrow.Author.Tests.{ltb-false, eqb-true}
-use Rattle.records.specs.Pick.{pick, All}
-use Rattle.records.specs.Edition.{Edition}
+use Rattle.fields.specs.Pick.{pick, All}
+use Rattle.fields.specs.Edition.{Edition}
 use Rattle.records.specs.declared.Refusal.{Refusal}
 use Rattle.records.specs.declared.Refusal.the-variants.{Form, Limit}
-use Rattle.records.specs.Record.{Storage, Rec, header, storage, function, abi, block, instruction, operand, terminator, target, end, headerFits, storageFits}
+use Rattle.fields.specs.Record.{Storage, Rec, header, storage, function, abi, block, instruction, operand, terminator, target, end, headerFits, storageFits}
 use Rattle.records.specs.Step.{State, start, Turn, next, refused, inAbi, atEnd}
 use Rattle.records.specs.Check.{scan, units, refusal, closed, check, records}
 use Rattle.records.specs.Program.{Function, Program, gather, program}

@@ -9,7 +9,7 @@ use lib.Dec.{ltb, eqb}
 use lib.ListN.{length, getD, set, drop, replicate, length-append, length-set, length-replicate, List·getD-append}
 use lib.Seq.{getD-append-seam, set-append-seam, getD-set-same, getD-set-other}
 use borrow.Author.Tests.{ltb-true, ltb-false, eqb-true, eqb-false}
-use Rattle.records.specs.Pick.{pick, pick-yes, pick-no, has}
+use Rattle.fields.specs.Pick.{pick, pick-yes, pick-no, has}
 use Rattle.records.specs.Units.{numberIn}
 use Rattle.records.specs.Outcome.{laid}
 use Rattle.records.specs.Mirror.{bucketOf, Low, Chained}

@@ -8,12 +8,13 @@ use native.Mathlib.Omega.{arith}
 use lib.Dec.{eqb}
 use lib.ListN.{length}
 use borrow.Author.Tests.{lt-ltb, le-ltb, eq-eqb, ne-eqb}
-use Rattle.records.specs.Pick.{pick-yes, pick-no, _and_, _or_, has}
-use Rattle.records.specs.Edition.{one}
-use Rattle.records.specs.Record.{Storage, Operand, Rec, storage, function, block, operand, wordOf}
+use Rattle.fields.specs.Pick.{pick-yes, pick-no, _and_, _or_, has}
+use Rattle.fields.specs.Edition.{one}
+use Rattle.fields.specs.Record.{Storage, Operand, Rec, storage, function, block, operand, wordOf}
 use Rattle.records.specs.Units.{numberIn, noted, noUnit}
 use Rattle.records.specs.Step.{State, Turn, next, refused, inBlock, withStorage, withFunction, withBlock, withNumber, withUnit, wordStep, unitStep, operandStep, finished, belongs, leaves, follows, fits, admit, take as taken, step}
-use Rattle.records.specs.Mirror.{readerOf, Comes}
+use Rattle.records.specs.Index.{entered}
+use Rattle.records.specs.Mirror.{readerOf, Holds, Enters, Comes}
 use Rattle.records.specs.declared.Refusal.{Refusal}
 use Rattle.records.specs.declared.Refusal.the-variants.{Form, Repeated, Undeclared, Limit}
 use Rattle.records.specs.declared.reader.Reader.{Reader}
@@ -139,8 +140,17 @@ module _ (s : State) (at word : ℕ) (P : State → Type 0) where
 
 -- A record by its kind, and the tests before it ---------------------------------------------------------------------------------------------------
 
-pub taken-as : (s : State) (at : ℕ) (x y : Rec) (r : Taken) (P : State → Type 0) → x ≡ y → Comes (taken one s at y) r P → Comes (taken one s at x) r P
-taken-as s at x y r P e h = comes-as _ _ r P (ap (taken one s at) e) h
+module _ (s : State) (at k : ℕ) (x y : Rec) (r : Taken) (before is fs bs ws hs ns ks : List ℕ) (e : x ≡ y) where
+  pub taken-as : Comes (taken one s at y) r (λ s′. Enters s′ y at k before is fs bs ws hs ns ks) → Comes (taken one s at x) r (λ s′. Enters s′ x at k before is fs bs ws hs ns ks)
+  taken-as h = rw e h
+
+  -- a record that is no function's leaves the table
+  pub taken-other : fs ≡ entered y at k before → Comes (taken one s at y) r (λ s′. Holds s′ is fs bs ws hs ns ks) → Comes (taken one s at x) r (λ s′. Enters s′ x at k before is fs bs ws hs ns ks)
+  taken-other same h = taken-as (go (taken one s at y) h)
+    where
+      go : (t : Turn) → Comes t r (λ s′. Holds s′ is fs bs ws hs ns ks) → Comes t r (λ s′. Enters s′ y at k before is fs bs ws hs ns ks)
+      go (next s′) m = (m .0, record { holds = m .1; table-is = same })
+      go (refused z) m = m
 
 -- First whether what came before the record is complete
 module _ (s : State) (at : ℕ) (x : Rec) (P : State → Type 0) where
@@ -157,3 +167,7 @@ module _ (s : State) (at : ℕ) (x : Rec) (P : State → Type 0) where
       → Comes (taken one s at x) r P → Comes (step one s at x) r P
   unfolding step
   step-taken r h k m = comes-as _ _ r P (pick-yes _ _ _ h ∙ pick-no _ _ _ k) m
+
+  -- an operand goes to what is open and leaves no block
+  pub step-operand : (y : Operand) (r : Taken) → x ≡ operand y → Comes (taken one s at x) r P → Comes (step one s at x) r P
+  step-operand y r e m = step-taken r (pick-yes _ _ _ (ap belongs e)) (pick-no _ _ _ (ap leaves e)) m

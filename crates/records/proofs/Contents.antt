@@ -7,9 +7,9 @@ use mathlib.Core.List.{List, [], _∷_}
 use Prim.Native.Nat.{ℕ}
 use lib.Dec.{eqb}
 use lib.ListN.{drop}
-use Rattle.records.specs.Pick.{has, All}
-use Rattle.records.specs.Edition.{Edition}
-use Rattle.records.specs.Record.{Storage, Abi, Operand, Rec, header, storage, function, abi, block, instruction, operand, terminator, target, end, whole, read}
+use Rattle.fields.specs.Pick.{has, All}
+use Rattle.fields.specs.Edition.{Edition}
+use Rattle.fields.specs.Record.{Storage, Abi, Operand, Rec, header, storage, function, abi, block, instruction, operand, terminator, target, end, whole, read}
 use Rattle.records.specs.Check.{records}
 use Rattle.records.specs.Program.{Step, Block, Function, Rest, empty, putStep, put, gather}
 use Rattle.records.proofs.Scan.{records-nil, records-whole}

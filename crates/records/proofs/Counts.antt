@@ -6,18 +6,19 @@ use mathlib.Core.List.{List, [], _∷_}
 use Prim.Native.Nat.{ℕ, zero, suc, _+_, _≤_, _<_}
 use native.Mathlib.Omega.{arith}
 use native.Mathlib.Nat.{not-suc-le-zero}
-use lib.Dec.{ltb, leb, eqb}
+use lib.Dec.{ltb, eqb}
 use lib.ListN.{length, getD, List·getD-eq-default}
 use borrow.Author.Tests.{ltb-true, ltb-false, leb-true, eqb-true, eqb-false, eq-eqb, ne-eqb}
 use mathlib.Core.Logic.{_⊎_, inl, inr}
-use Rattle.records.specs.Pick.{pick, _and_, times}
-use Rattle.records.specs.Edition.{Edition}
-use Rattle.records.specs.Record.{Operand, Rec, header, storage, function, abi, block, instruction, operand, terminator, target, end}
+use Rattle.fields.specs.Pick.{pick, times}
+use Rattle.fields.specs.Edition.{Edition}
+use Rattle.fields.specs.Record.{Operand, Rec, header, storage, function, abi, block, instruction, operand, terminator, target, end}
 use Rattle.records.specs.Mirror.{Rising, seen}
-use Rattle.records.proofs.Front.{and-both, pick-same}
+use Rattle.fields.proofs.Front.{and-both, pick-same}
+use Rattle.fields.proofs.TableLaws.{operandFitsBy}
 use Rattle.records.proofs.Took.{Named, Took, unnamed, givenTo}
-use Rattle.records.specs.Fields.{Field, noField, lacks, missing, most, takes, greatest, wellFormed}
-use Rattle.records.specs.Step.{State, withHeader, withStorage, withFunction, withBlock, withOpened, withNumber, withUnit, opened, withGiven, withTarget, lastField, fieldAt, operandFits}
+use Rattle.fields.specs.Fields.{Field, noField, lacks, missing, most, fieldAt}
+use Rattle.records.specs.Step.{State, withHeader, withStorage, withFunction, withBlock, withOpened, withNumber, withUnit, opened, withGiven, withTarget, lastField, operandFits}
 
 -- a field above the last one has none
 above-none : (given : List ℕ) (field : ℕ) → Rising given → lastField given < field → times field given ≡ 0
@@ -79,14 +80,7 @@ pub missing-more : (row : List Field) (field : ℕ) (given : List ℕ) → field
     → missing row 0 (field ∷ given) + lacks (fieldAt row field .count) (times field given) ≡ missing row 0 given + lacks (fieldAt row field .count) (suc (times field given))
 missing-more row field given l = let z : 0 + field ≡ field = omega arith in rw z at (missing-at row 0 field given l)
 
--- An operand fits, by the last field and its count.
-unfoldable pub operandFitsBy : List Field → ℕ → ℕ → Operand → Bool
-operandFitsBy row last n x =
-    leb last (x .field)
-    and (ltb (pick (eqb (x .field) last) n 0) (most (fieldAt row (x .field) .count))
-    and (takes (fieldAt row (x .field) .class) (x .shape)
-    and wellFormed (greatest (fieldAt row (x .field) .class)) (x .shape) (x .storage) (x .offset)))
-
+-- the last field and its count are all that the judgement of an operand needs
 pub operand-by : (row : List Field) (given : List ℕ) (x : Operand) → Rising given → operandFits row given x ≡ operandFitsBy row (lastField given) (seen given) x
 unfolding operandFits operandFitsBy
 operand-by row given x r = pick-same _ _ _ _ _ (λ h. rw (count-at given (x .field) r (leb-true (lastField given) (x .field) h))) (λ _. refl)

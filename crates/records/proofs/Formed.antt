@@ -9,13 +9,13 @@ use native.Mathlib.Omega.{arith}
 use lib.Dec.{eqb}
 use lib.ListN.{length, drop}
 use borrow.Author.Tests.{ltb-true, leb-true, eqb-true}
-use Rattle.records.specs.Pick.{pick, _or_, All}
-use Rattle.records.specs.Edition.{Edition}
-use Rattle.records.specs.Fields.{Field, missing}
-use Rattle.records.specs.Record.{Abi, Operand, Rec, header, storage, function, abi, block, instruction, operand, terminator, target, end, headerFits, storageFits, abiFits}
+use Rattle.fields.specs.Pick.{pick, _or_, All}
+use Rattle.fields.specs.Edition.{Edition}
+use Rattle.fields.specs.Fields.{Field, missing}
+use Rattle.fields.specs.Record.{Abi, Operand, Rec, header, storage, function, abi, block, instruction, operand, terminator, target, end, headerFits, storageFits, abiFits}
 use Rattle.records.specs.Step.{Opened, nothing, State, withHeader, withStorage, withFunction, withBlock, withOpened, withNumber, withUnit, opened, withGiven, withTarget, atStart, inStorages, inAbi, inBlock, afterBlock, atEnd, operandFits, finished}
 use Rattle.records.specs.Program.{Step, rowOf, leastBy, mostBy, numbersFit, Block, Function, Rest, empty, putStep, put}
-use Rattle.records.proofs.Front.{and-both}
+use Rattle.fields.proofs.Front.{and-both}
 use Rattle.records.proofs.Scan.{Walk, done, more}
 use Rattle.records.proofs.Took.{Named, Took, Stepped, stepped, unnamed, givenTo}
 use Rattle.records.proofs.Contents.{rest, rest-nil, rest-whole}

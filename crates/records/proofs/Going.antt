@@ -1,19 +1,19 @@
--- For the code that will read a file. `Going`: what its loop over the records keeps: what is left comes to `w`, what the whole comes to.
--- `append-step`: a writer's next record is one step. Assumes nothing.
-use mathlib.Core.Path.{_≡_, refl, sym, ap, _∙_}
-use mathlib.Core.List.{List, [], _++_}
+-- What the loop over the records keeps (`Going`): what is left comes to `w`, what the whole comes to, since each turn takes one record off the front.
+-- Assumes nothing.
+use mathlib.Core.Path.{_≡_, refl, ap, _∙_}
+use mathlib.Core.List.{List}
 use Prim.Native.Nat.{ℕ, _+_, _≤_, _<_}
 use native.Mathlib.Omega.{arith}
 use lib.ListN.{length, drop, length-drop, drop-of-length-le}
 use lib.Seq.{drop-drop}
-use Rattle.records.specs.Edition.{Edition}
+use Rattle.fields.specs.Edition.{Edition}
 use Rattle.records.specs.declared.Refusal.{Refusal}
 use Rattle.records.specs.declared.Refusal.the-variants.{Form}
-use Rattle.records.specs.Record.{Rec, whole, fault, read}
+use Rattle.fields.specs.Record.{Rec, whole, fault, read}
 use Rattle.records.specs.Step.{State, start, Turn, next, refused, step}
 use Rattle.records.specs.Check.{scan}
-use Rattle.records.proofs.Front.{read-whole}
-use Rattle.records.proofs.Scan.{scan-nil, scan-fault, scan-refused, scan-next, prefix}
+use Rattle.fields.proofs.Front.{read-whole}
+use Rattle.records.proofs.Scan.{scan-nil, scan-fault, scan-refused, scan-next}
 
 pub record Going (ed : Edition) (w : Turn) (f : List ℕ) (s : State) (at : ℕ) : Type 0 where
   pub within : at ≤ length f
@@ -44,17 +44,3 @@ module _ (ed : Edition) (w : Turn) (f : List ℕ) (s : State) (at : ℕ) (g : Go
           within = omega (arith, read-whole ed t len x e .fits, ap length here, length-drop at f, g .within);
           same = at-tail ∙ (scan-next ed s at t len x e s′ q ∙ ap (scan ed s′ (at + len)) (ap (drop len) here ∙ drop-drop len at f));
         }
-
--- What is written, and one record more: the reader's answer is that of one step.
-pub append-step : (ed : Edition) (s : State) (xs ys : List ℕ) (x : Rec) → scan ed start 0 xs ≡ next s → read ed ys ≡ whole (length ys) x → scan ed start 0 (xs ++ ys) ≡ step ed s (length xs) x
-append-step ed s xs ys x e r = prefix ed start s 0 xs ys e ∙ (ap (λ i. scan ed s i ys) (sym (zero-is (length xs))) ∙ (go (step ed s (length xs) x) refl))
-  where
-    zero-is : (n : ℕ) → n ≡ 0 + n
-    zero-is n = omega arith
-
-    none : drop (length ys) ys ≡ []
-    none = drop-of-length-le ys {i = length ys} (omega arith)
-
-    go : (tn : Turn) → step ed s (length xs) x ≡ tn → scan ed s (length xs) ys ≡ tn
-    go (next s′) q = scan-next ed s (length xs) ys (length ys) x r s′ q ∙ (ap (scan ed s′ (length xs + length ys)) none ∙ scan-nil ed s′ (length xs + length ys))
-    go (refused y) q = scan-refused ed s (length xs) ys (length ys) x r y q

@@ -9,16 +9,19 @@ use lib.Dec.{ltb, eqb}
 use lib.ListN.{length, take, set, length-append, length-set}
 use borrow.Author.Tests.{ltb-true, leb-true, lt-ltb, le-ltb, eq-eqb, ne-eqb}
 use Rattle.rows.specs.Row.{memberAt, withAt}
-use Rattle.records.specs.Pick.{pick-yes, pick-no, _and_, _or_, has}
-use Rattle.records.specs.Edition.{one}
+use Rattle.fields.specs.Pick.{pick-yes, pick-no, _and_, _or_, has}
+use Rattle.fields.specs.Edition.{one}
+use Rattle.records.specs.Index.{listed}
 use Rattle.records.specs.Outcome.{laid}
-use Rattle.records.specs.Fields.{Field}
-use Rattle.records.specs.Record.{u16At, storageIn, storageFits}
+use Rattle.fields.specs.Fields.{Field}
+use Rattle.fields.specs.Record.{function, u16At, storageIn, storageFits}
 use Rattle.records.specs.Step.{Opened, nothing, State, inStorages, inAbi, inBlock, afterBlock, opened, withHeader, withStorage, withFunction, withBlock, withOpened, withNumber}
-use Rattle.records.specs.Mirror.{pendingOf, readerOf, Chained, Holds}
+use Rattle.records.specs.Mirror.{pendingOf, readerOf, Chained, Holds, Enters}
 use Rattle.records.specs.declared.pending.Pending.{Pending}
 use Rattle.records.specs.declared.reader.Reader.{Reader}
-use Rattle.records.proofs.Front.{and-both}
+use Rattle.fields.proofs.Front.{and-both}
+use Rattle.records.proofs.Numbers.{has-snoc}
+use Rattle.records.proofs.Entries.{entry-many, listed-more, enters-function}
 use Rattle.records.proofs.Lists.{front-snoc, row-has, row-snoc, low-snoc}
 
 -- The numbers of a state -----------------------------------------------------------------------------------------------------------------------
@@ -145,7 +148,8 @@ module _ (s : State) (is fs bs ws hs ns ks : List ℕ) (h : Holds s is fs bs ws 
       record {
         idRow = h .idRow;
         idLow = h .idLow;
-        functionRow = h .functionRow;
+        manyEntries = h .manyEntries;
+        functionList = h .functionList;
         manyBlocks = h .manyBlocks;
         blockList = h .blockList;
         unitsMost = h .unitsMost;
@@ -165,7 +169,8 @@ module _ (s : State) (is fs bs ws hs ns ks : List ℕ) (h : Holds s is fs bs ws 
       record {
         idRow = e ∙ ap (withAt is 0) q ∙ row-snoc is (s .ids) id (h .idRow) l;
         idLow = low-snoc (s .ids) id (h .idLow) l;
-        functionRow = h .functionRow;
+        manyEntries = h .manyEntries;
+        functionList = h .functionList;
         manyBlocks = h .manyBlocks;
         blockList = h .blockList;
         unitsMost = h .unitsMost;
@@ -174,13 +179,16 @@ module _ (s : State) (is fs bs ws hs ns ks : List ℕ) (h : Holds s is fs bs ws 
         numberList = h .numberList;
       }
 
-  pub holds-function : (n : ℕ) (fs′ : List ℕ) → n < 256 → fs′ ≡ withAt fs 0 n → Holds (withFunction n s) is fs′ bs ws hs ns ks
+  pub holds-function : (n at k : ℕ) (fs′ : List ℕ) → n < 256 → at ≤ 16384 → fs′ ≡ set (set fs n (at + 2)) (256 + n) k → Holds (withFunction n s) is fs′ bs ws hs ns ks
   unfolding withFunction
-  holds-function n fs′ low e =
+  holds-function n at k fs′ low early e =
       record {
         idRow = h .idRow;
         idLow = h .idLow;
-        functionRow = e ∙ row-snoc fs (s .functions) n (h .functionRow) low;
+        manyEntries = ap length e ∙ entry-many fs n (at + 2) k (h .manyEntries) low;
+        functionList = λ m l.
+            ap (λ (t : List ℕ). listed t m) e ∙ listed-more fs n (at + 2) k (h .manyEntries) low (omega arith) m l
+            ∙ ap (λ (b : Bool). b or eqb m n) (h .functionList m l) ∙ sym (has-snoc m n (s .functions));
         manyBlocks = h .manyBlocks;
         blockList = refl;
         unitsMost = h .unitsMost;
@@ -188,6 +196,11 @@ module _ (s : State) (is fs bs ws hs ns ks : List ℕ) (h : Holds s is fs bs ws 
         chains = h .chains;
         numberList = h .numberList;
       }
+
+  -- its number was not in the table, as the code has found
+  pub enters-new : (n at k : ℕ) (fs′ : List ℕ) (r : Bool) → n < 256 → at ≤ 16384 → r ≡ listed fs n → r ≡ false → fs′ ≡ set (set fs n (at + 2)) (256 + n) k
+      → Enters (withFunction n s) (function n) at k fs is fs′ bs ws hs ns ks
+  enters-new n at k fs′ r low early p q e = record { holds = holds-function n at k fs′ low early e; table-is = e ∙ enters-function fs n at k (sym p ∙ q) }
 
   pub holds-block : (at n k id : ℕ) (bs′ : List ℕ) → n ≡ length (s .blocks) → k ≡ id → n < 128 → bs′ ≡ set bs n k
       → Holds (withBlock at id s) is fs bs′ ws hs ns ks
@@ -199,7 +212,8 @@ module _ (s : State) (is fs bs ws hs ns ks : List ℕ) (h : Holds s is fs bs ws 
       record {
         idRow = h .idRow;
         idLow = h .idLow;
-        functionRow = h .functionRow;
+        manyEntries = h .manyEntries;
+        functionList = h .functionList;
         manyBlocks = ap length e ∙ length-set bs n k ∙ h .manyBlocks;
         blockList = f;
         unitsMost = h .unitsMost;
@@ -219,7 +233,8 @@ module _ (s : State) (is fs bs ws hs ns ks : List ℕ) (h : Holds s is fs bs ws 
       record {
         idRow = h .idRow;
         idLow = h .idLow;
-        functionRow = h .functionRow;
+        manyEntries = h .manyEntries;
+        functionList = h .functionList;
         manyBlocks = h .manyBlocks;
         blockList = h .blockList;
         unitsMost = most;
@@ -227,6 +242,9 @@ module _ (s : State) (is fs bs ws hs ns ks : List ℕ) (h : Holds s is fs bs ws 
         chains = chains;
         numberList = f;
       }
+
+  pub entry-answer : (n m : ℕ) (r b : Bool) → n ≡ m → n < 256 → r ≡ listed fs n → r ≡ b → has m (s .functions) ≡ b
+  entry-answer n m r b p low q k = ap (λ (i : ℕ). has i (s .functions)) (sym p) ∙ sym (h .functionList n low) ∙ sym q ∙ k
 
   pub declared-is : (id : ℕ) → (ltb id 256 and memberAt is 0 id) ≡ has id (s .ids)
   declared-is id = go (ltb id 256) refl

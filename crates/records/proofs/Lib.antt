@@ -1,6 +1,3 @@
-pub mod Cases
-pub mod Front
-pub mod ByKind
 pub mod Scan
 pub mod Took
 pub mod Range
@@ -13,13 +10,12 @@ pub mod Accepted
 pub mod Placed
 pub mod Going
 pub mod Lists
+pub mod Entries
 pub mod Held
 pub mod Comings
 pub mod TenKinds
 pub mod Counts
 pub mod Numbers
-pub mod Words
-pub mod TableLaws
 pub mod Outcomes
 pub mod Pendings
 pub mod Chains

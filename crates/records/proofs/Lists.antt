@@ -11,9 +11,9 @@ use lib.Dec.{eqb}
 use lib.ListN.{length, getD, take, set, length-append}
 use lib.Seq.{take-suc, take-suc-set}
 use borrow.Author.Tests.{eqb-true, eq-eqb, ne-eqb}
-use Rattle.records.specs.Pick.{pick, pick-yes, pick-no, _or_, has}
+use Rattle.fields.specs.Pick.{pick, pick-yes, pick-no, _or_, has}
 use Rattle.records.specs.Units.{numberIn}
-use Rattle.records.proofs.Front.{or-cases, or-is}
+use Rattle.fields.proofs.Front.{or-cases, or-is}
 use Rattle.records.proofs.Range.{Distinct}
 use Rattle.records.proofs.Numbers.{has-snoc, number-low, at-has}
 use Rattle.rows.specs.Row.{memberAt, withAt, pack}
@@ -72,12 +72,12 @@ low-snoc xs x low h n m = go (or-cases (has n xs) (eqb n x) (sym (has-snoc n x x
 
 -- A look through a list: whether a number stands among the first i elements, and what one element more says ------------------------------------
 
-or-last : (a b : Bool) → b ≡ true → true ≡ (a or b)
+pub or-last : (a b : Bool) → b ≡ true → true ≡ (a or b)
 unfolding pick
 or-last true b h = refl
 or-last false b h = sym h
 
-or-first : (a b : Bool) → b ≡ false → a ≡ (a or b)
+pub or-first : (a b : Bool) → b ≡ false → a ≡ (a or b)
 unfolding pick
 or-first true b h = refl
 or-first false b h = sym h

@@ -1,15 +1,15 @@
 -- Laws of lists without repetition, for code that keeps them as bit rows and arrays: `has-snoc` (one more member), `number-low` and `number-at` (a
--- unit's number is a place of its word), `number-none` and `number-stays` (a new unit gets the next number, the others keep theirs). Assumes nothing.
+-- unit's number is a place of its word), `number-stays` (a new unit leaves the others their numbers). Assumes nothing.
 use mathlib.Core.Path.{_≡_, refl, sym, ap}
 use mathlib.Core.Bool.{Bool, true, false, true≢false}
 use mathlib.Core.List.{List, [], _∷_, _++_}
-use Prim.Native.Nat.{ℕ, zero, suc, _≤_, _<_}
+use Prim.Native.Nat.{ℕ, zero, suc, _<_}
 use native.Mathlib.Omega.{arith}
 use native.Mathlib.Nat.{not-suc-le-zero}
 use lib.Dec.{eqb}
 use lib.ListN.{length, getD}
 use borrow.Author.Tests.{eqb-true, eq-eqb}
-use Rattle.records.specs.Pick.{pick, _or_, has}
+use Rattle.fields.specs.Pick.{pick, _or_, has}
 use Rattle.records.specs.Units.{numberIn}
 
 pub has-snoc : (x y : ℕ) (ys : List ℕ) → has x (ys ++ (y ∷ [])) ≡ (has x ys or eqb x y)
@@ -25,15 +25,6 @@ has-snoc x y (z ∷ ys) = go (eqb x z) (has-snoc x y ys)
     go true h = refl
     go false h = h
 
-pub number-most : (word : ℕ) (us : List ℕ) → numberIn word us ≤ length us
-unfolding numberIn pick
-number-most word [] = omega arith
-number-most word (u ∷ us) = go (eqb word u) (number-most word us)
-  where
-    go : (t : Bool) → numberIn word us ≤ length us → pick t 0 (suc (numberIn word us)) ≤ suc (length us)
-    go true h = omega arith
-    go false h = omega arith
-
 pub number-low : (word : ℕ) (us : List ℕ) → has word us ≡ true → numberIn word us < length us
 unfolding numberIn has pick
 number-low word [] h = absurd (true≢false (sym h))
@@ -42,16 +33,6 @@ number-low word (u ∷ us) h = go (eqb word u) h (number-low word us)
     go : (t : Bool) → (t or has word us) ≡ true → (has word us ≡ true → numberIn word us < length us) → pick t 0 (suc (numberIn word us)) < suc (length us)
     go true h ih = omega arith
     go false h ih = omega (arith, ih h)
-
--- where it is not there, its number would be the next one
-pub number-none : (word : ℕ) (us : List ℕ) → has word us ≡ false → numberIn word us ≡ length us
-unfolding numberIn has pick
-number-none word [] h = refl
-number-none word (u ∷ us) h = go (eqb word u) h (number-none word us)
-  where
-    go : (t : Bool) → (t or has word us) ≡ false → (has word us ≡ false → numberIn word us ≡ length us) → pick t 0 (suc (numberIn word us)) ≡ suc (length us)
-    go true h ih = absurd (true≢false h)
-    go false h ih = ap suc (ih h)
 
 pub number-at : (word : ℕ) (us : List ℕ) → has word us ≡ true → getD us (numberIn word us) 0 ≡ word
 unfolding numberIn has pick

@@ -8,11 +8,12 @@ use lib.Dec.{ltb}
 use borrow.Author.Fill.{fill-more}
 use lib.ListN.{set, drop-of-length-le, length, drop, replicate, length-append, length-drop, length-replicate}
 use borrow.Author.Tests.{ltb-false, le-ltb, lt-ltb}
-use Rattle.records.specs.Pick.{pick, pick-yes, pick-no}
-use Rattle.records.specs.Edition.{Edition, one}
+use Rattle.fields.specs.Pick.{pick, pick-yes, pick-no}
+use Rattle.fields.specs.Edition.{Edition, one}
 use Rattle.records.specs.declared.Refusal.{Refusal}
 use Rattle.records.specs.declared.Refusal.the-variants.{Short, Limit}
 use Rattle.records.specs.Check.{Answer, units, refusal, check, numbers}
+use Rattle.records.specs.Index.{tabled}
 use Rattle.records.specs.Outcome.{Outcome, laid, outcomeBy, outcome, Checks, Numbers}
 use Rattle.records.specs.Mirror.{Walked}
 use Rattle.records.specs.declared.Checked.{Checked}
@@ -47,24 +48,24 @@ laid-rest n us before =
     ∙ simp (append-assoc, append-nil)
 
 module _ (f : List ℕ) where
-  pub numbering-long : (n : ℕ) (words found : List ℕ) → 16384 < length f → words ≡ replicate n 0 → n ≡ 512 → Numbers f (Refused (Limit 16384)) words found
+  pub numbering-long : (n : ℕ) (words found table : List ℕ) → 16384 < length f → words ≡ replicate n 0 → n ≡ 512 → Numbers f (Refused (Limit 16384)) words found table
   unfolding check
-  numbering-long n words found l e h =
+  numbering-long n words found table l e h =
       let a : check one f ≡ refusal (Limit 16384) = pick-yes _ _ _ (lt-ltb 16384 (length f) l) in
       (rw (a, e, cleared n h), λ us q. let z : _≡_ {A = ℕ} 0 1 = cc a in absurd (omega arith))
 
-  module _ (r : Checked) (words found : List ℕ) (walked : Walked (check one f) r words found (numbers one f)) where
-    pub numbering-units : (n : ℕ) → r ≡ Units n → Numbers f (Units n) words found
+  module _ (r : Checked) (words found table : List ℕ) (walked : Walked (check one f) r words found (numbers one f) table (tabled one f)) where
+    pub numbering-units : (n : ℕ) → r ≡ Units n → Numbers f (Units n) words found table
     numbering-units n e = go (check one f) refl walked
       where
-        go : (a : Answer) → check one f ≡ a → Walked a r words found (numbers one f) → Numbers f (Units n) words found
-        go (units us) q w = let i : Units n ≡ Units (length us) = cc (w .0) in (rw (q, i, w .1), λ _ _. w .2)
+        go : (a : Answer) → check one f ≡ a → Walked a r words found (numbers one f) table (tabled one f) → Numbers f (Units n) words found table
+        go (units us) q w = let i : Units n ≡ Units (length us) = cc (w .0) in (rw (q, i, w .1), λ _ _. (w .2, w .3))
         go (refusal x) q w = let z : _≡_ {A = ℕ} 0 1 = cc in absurd (omega arith)
 
-    pub numbering-refused : (x : Refusal) (words′ : List ℕ) (n : ℕ) → r ≡ Refused x → words′ ≡ replicate n 0 → n ≡ 512 → Numbers f (Refused x) words′ found
+    pub numbering-refused : (x : Refusal) (words′ : List ℕ) (n : ℕ) → r ≡ Refused x → words′ ≡ replicate n 0 → n ≡ 512 → Numbers f (Refused x) words′ found table
     numbering-refused x words′ n e c h = go (check one f) refl walked
       where
-        go : (a : Answer) → check one f ≡ a → Walked a r words found (numbers one f) → Numbers f (Refused x) words′ found
+        go : (a : Answer) → check one f ≡ a → Walked a r words found (numbers one f) table (tabled one f) → Numbers f (Refused x) words′ found table
         go (units us) q w = let z : _≡_ {A = ℕ} 0 1 = cc (w .0) in absurd (omega arith)
         go (refusal y) q w =
             let i : Refused x ≡ Refused y = cc in
@@ -74,9 +75,9 @@ module _ (f : List ℕ) where
   unfolding outcome
   checks-short before l = sym (pick-yes _ _ _ (lt-ltb (length before) 512 l))
 
-  pub checks-all : (before words found : List ℕ) (r : Checked) → 512 ≤ length before → Numbers f r words found → Checks f before r (words ++ drop 512 before)
+  pub checks-all : (before words found table : List ℕ) (r : Checked) → 512 ≤ length before → Numbers f r words found table → Checks f before r (words ++ drop 512 before)
   unfolding outcome
-  checks-all before words found r l h = go (check one f) (h .0)
+  checks-all before words found table r l h = go (check one f) (h .0)
     where
       go : (a : Answer) → record { answer = r; words = words } ≡ outcomeBy one [] a
           → record { answer = r; words = words ++ drop 512 before } ≡ pick (ltb (length before) 512) (record { answer = Refused Short; words = before }) (outcomeBy one before a)

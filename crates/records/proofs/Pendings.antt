@@ -9,15 +9,15 @@ use native.Mathlib.Nat.{pow-succ', one-le-pow}
 use lib.Dec.{ltb, leb, eqb}
 use lib.ListN.{length, getD}
 use borrow.Author.Tests.{eq-eqb, ne-eqb}
-use Rattle.records.specs.Pick.{pick, pick-yes, pick-no, _and_, times}
-use Rattle.records.specs.Fields.{Field, lacks, missing, wellFormed}
-use Rattle.records.specs.Record.{Operand, u8At, u16At, operandIn}
-use Rattle.records.specs.Step.{Opened, opened, withGiven, withTarget, lastField, fieldAt, operandFits, finished}
-use Rattle.records.specs.Table.{byteOf, rowWord, above, entryOf, mostIn, lacksIn, takesIn, greatestIn}
+use Rattle.fields.specs.Pick.{pick, pick-yes, pick-no, _and_, times}
+use Rattle.fields.specs.Fields.{Field, lacks, missing, wellFormed, fieldAt}
+use Rattle.fields.specs.Record.{Operand, u8At, u16At, operandIn}
+use Rattle.records.specs.Step.{Opened, opened, withGiven, withTarget, lastField, operandFits, finished}
+use Rattle.fields.specs.Table.{byteOf, rowWord, above, entryOf, mostIn, lacksIn, takesIn, greatestIn}
 use Rattle.records.specs.Mirror.{Rising, seen, pendingOf}
 use Rattle.records.specs.declared.pending.Pending.{Pending}
 use Rattle.records.proofs.Counts.{count-at, last-more, seen-more, missing-more, operand-by}
-use Rattle.records.proofs.TableLaws.{byte-low, row-byte, lacks-in, operandFitsIn, operand-in}
+use Rattle.fields.proofs.TableLaws.{byte-low, row-byte, lacks-in, operandFitsIn, operand-in}
 
 -- a row of n fields is below 256 ^ n
 pub row-low : (n : ℕ) (row : List Field) → length row ≤ n → rowWord row < 256 ^ n

@@ -9,7 +9,7 @@ use native.Mathlib.Nat.{not-suc-le-zero}
 use lib.Dec.{eqb}
 use lib.ListN.{length}
 use borrow.Author.Tests.{eqb-true, eqb-false, eq-eqb}
-use Rattle.records.specs.Pick.{pick, _or_, has, times}
+use Rattle.fields.specs.Pick.{pick, _or_, has, times}
 use Rattle.records.proofs.Range.{Distinct}
 
 times-none : (v : ℕ) (xs : List ℕ) → has v xs ≡ false → times v xs ≡ 0

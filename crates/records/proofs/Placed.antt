@@ -8,14 +8,14 @@ use native.Mathlib.Omega.{arith}
 use lib.Dec.{eqb}
 use lib.ListN.{length, take, drop}
 use lib.Seq.{length-take-le}
-use Rattle.records.specs.Pick.{pick, All}
-use Rattle.records.specs.Edition.{Edition}
-use Rattle.records.specs.Record.{Rec, header, storage, function, abi, block, instruction, operand, terminator, target, end, whole, read, recordAt}
+use Rattle.fields.specs.Pick.{pick, All}
+use Rattle.fields.specs.Edition.{Edition}
+use Rattle.fields.specs.Record.{Rec, header, storage, function, abi, block, instruction, operand, terminator, target, end, whole, read, recordAt}
 use Rattle.records.specs.Step.{State, start, atEnd}
 use Rattle.records.specs.Check.{units, check, pieces, records}
 use Rattle.records.specs.Program.{Step, Block, Function, Rest, putStep, put, program}
 use Rattle.records.specs.Place.{step, noFunction, within, startsWith, findIn, stepAt}
-use Rattle.records.proofs.Front.{read-whole, read-take}
+use Rattle.fields.proofs.Front.{read-whole, read-take}
 use Rattle.records.proofs.Scan.{Walk, done, more, walk, pieces-nil, pieces-whole}
 use Rattle.records.proofs.Took.{stepped}
 use Rattle.records.proofs.Contents.{rest, rest-whole}

@@ -9,13 +9,13 @@ use native.Mathlib.Omega.{arith}
 use lib.Dec.{ltb, eqb}
 use lib.ListN.{length, length-append}
 use borrow.Author.Tests.{ltb-true, leb-true, eqb-true, eqb-false, eq-eqb, ne-eqb}
-use Rattle.records.specs.Pick.{pick, _or_, has, All}
-use Rattle.records.specs.Edition.{Edition}
-use Rattle.records.specs.Record.{Storage, Operand, Rec, header, storage, function, abi, block, instruction, operand, terminator, target, end, storageFits, wordOf}
+use Rattle.fields.specs.Pick.{pick, _or_, has, All}
+use Rattle.fields.specs.Edition.{Edition}
+use Rattle.fields.specs.Record.{Storage, Operand, Rec, header, storage, function, abi, block, instruction, operand, terminator, target, end, storageFits, wordOf}
 use Rattle.records.specs.Units.{noted}
 use Rattle.records.specs.Step.{Opened, State, start, withHeader, withStorage, withFunction, withBlock, withOpened, withNumber, withUnit}
 use Rattle.records.specs.Check.{records}
-use Rattle.records.proofs.Front.{and-both, or-cases}
+use Rattle.fields.proofs.Front.{and-both, or-cases}
 use Rattle.records.proofs.Scan.{Walk, done, more, records-nil, records-whole}
 use Rattle.records.proofs.Took.{Named, Took, stepped, unnamed, givenTo}
 

@@ -7,16 +7,16 @@ use mathlib.Core.List.{List, [], _∷_, _++_, append-assoc}
 use Prim.Native.Nat.{ℕ, zero, suc, _+_, _≤_, _<_}
 use native.Mathlib.Nat.{not-suc-le-zero}
 use native.Mathlib.Omega.{arith}
-use lib.ListN.{length, take, drop, length-append, length-drop, take-append-drop}
+use lib.ListN.{length, take, drop, length-drop, take-append-drop}
 use lib.Seq.{drop-append-le, drop-append-seam, length-take-le}
-use Rattle.records.specs.Pick.{All}
-use Rattle.records.specs.Edition.{Edition}
+use Rattle.fields.specs.Pick.{All}
+use Rattle.fields.specs.Edition.{Edition}
 use Rattle.records.specs.declared.Refusal.{Refusal}
 use Rattle.records.specs.declared.Refusal.the-variants.{Form}
-use Rattle.records.specs.Record.{Rec, Read, whole, fault, read}
+use Rattle.fields.specs.Record.{Rec, Read, whole, fault, read}
 use Rattle.records.specs.Step.{State, Turn, next, refused, step}
-use Rattle.records.specs.Check.{atTail, byTurn, byRead, scanBy, scan, byPiece, piecesBy, pieces, recordsIn, records, placesIn}
-use Rattle.records.proofs.Front.{Whole, read-whole, read-append, read-take}
+use Rattle.records.specs.Check.{atTail, byTurn, byRead, scanBy, scan, byPiece, piecesBy, pieces, recordsIn, records}
+use Rattle.fields.proofs.Front.{Whole, read-whole, read-append, read-take}
 
 pub tail-some : {A : Type 0} (t : List ℕ) (a b : A) → 0 < length t → atTail t a b ≡ b
 unfolding atTail
@@ -216,10 +216,3 @@ joined-append (q ∷ qs) rs = ap (λ t. q ++ t) (joined-append qs rs) ∙ sym (a
 
 pub piece-place : (qs rs : List (List ℕ)) → drop (length (joined qs)) (joined (qs ++ rs)) ≡ joined rs
 piece-place qs rs = ap (drop (length (joined qs))) (joined-append qs rs) ∙ drop-append-seam (joined qs) (joined rs)
-
-pub places-append : (at : ℕ) (qs rs : List (List ℕ)) → placesIn at (qs ++ rs) ≡ placesIn at qs ++ placesIn (at + length (joined qs)) rs
-unfolding placesIn joined
-places-append at [] rs = let k : at + 0 ≡ at = omega arith in rw k
-places-append at (q ∷ qs) rs =
-    let k : at + length q + length (joined qs) ≡ at + length (q ++ joined qs) = omega (arith, length-append q (joined qs)) in
-    ap (λ l. at ∷ l) (places-append (at + length q) qs rs ∙ ap (λ i. placesIn (at + length q) qs ++ placesIn i rs) k)

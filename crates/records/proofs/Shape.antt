@@ -8,11 +8,11 @@ use Prim.Native.Nat.{ℕ, _+_, _≤_}
 use native.Mathlib.Omega.{arith}
 use lib.Dec.{eqb}
 use lib.ListN.{length, drop, length-append}
-use Rattle.records.specs.Edition.{Edition}
-use Rattle.records.specs.Record.{Storage, Rec, header, storage, function, abi, block, instruction, operand, terminator, target, end}
+use Rattle.fields.specs.Edition.{Edition}
+use Rattle.fields.specs.Record.{Storage, Rec, header, storage, function, abi, block, instruction, operand, terminator, target, end}
 use Rattle.records.specs.Step.{State, withHeader, withStorage, withFunction, withBlock, withOpened, withNumber, withUnit, inAbi, atEnd}
 use Rattle.records.specs.Program.{Step, Block, Function, Rest, empty, putStep, put}
-use Rattle.records.specs.Pick.{All}
+use Rattle.fields.specs.Pick.{All}
 use Rattle.records.proofs.Scan.{Walk, done, more}
 use Rattle.records.proofs.Took.{Named, Took, stepped, unnamed, givenTo}
 use Rattle.records.proofs.Range.{Distinct, Sound, kept}

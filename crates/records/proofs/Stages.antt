@@ -9,12 +9,12 @@ use native.Mathlib.Omega.{arith}
 use native.Mathlib.Decide.{decLe}
 use lib.Dec.{ltb, eqb}
 use borrow.Author.Tests.{ltb-true, eqb-true}
-use Rattle.records.specs.Pick.{_or_, times}
-use Rattle.records.specs.Edition.{Edition}
-use Rattle.records.specs.Record.{Operand, Rec, header, storage, function, abi, block, instruction, operand, terminator, target, end}
+use Rattle.fields.specs.Pick.{_or_, times}
+use Rattle.fields.specs.Edition.{Edition}
+use Rattle.fields.specs.Record.{Operand, Rec, header, storage, function, abi, block, instruction, operand, terminator, target, end}
 use Rattle.records.specs.Step.{nothing, State, start, withHeader, withStorage, withFunction, withBlock, withOpened, withNumber, withUnit, atStart, inStorages, inAbi, inBlock, afterBlock, atEnd, operandFits, lastField}
 use Rattle.records.specs.Program.{Step}
-use Rattle.records.proofs.Front.{and-both, or-cases}
+use Rattle.fields.proofs.Front.{and-both, or-cases}
 use Rattle.records.proofs.Scan.{Walk, done, more}
 use Rattle.records.proofs.Took.{Named, Took, stepped, unnamed, givenTo}
 

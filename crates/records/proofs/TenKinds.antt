@@ -5,10 +5,10 @@ use mathlib.Core.Bool.{true, false}
 use mathlib.Core.List.{List}
 use Prim.Native.Nat.{ℕ, zero, suc, _≤_, _<_}
 use native.Mathlib.Omega.{arith}
-use Rattle.records.specs.Edition.{one}
-use Rattle.records.specs.Record.{u8At, lengthOf, headerAt, instructionAt, terminatorAt, recordAt}
+use Rattle.fields.specs.Edition.{one}
+use Rattle.fields.specs.Record.{u8At, lengthOf, headerAt, instructionAt, terminatorAt, recordAt}
 use Rattle.records.specs.Step.{belongs, leaves}
-use Rattle.records.proofs.ByKind.{kind-header, kind-storage, kind-function, kind-abi, kind-block, kind-instruction, kind-operand, kind-terminator, kind-target, kind-end}
+use Rattle.fields.proofs.ByKind.{kind-header, kind-storage, kind-function, kind-abi, kind-block, kind-instruction, kind-operand, kind-terminator, kind-target, kind-end}
 
 pub long-at : (n k l : ℕ) → k ≡ n → lengthOf one k ≤ l → lengthOf one n ≤ l
 long-at n k l e h = rw e at h
@@ -29,9 +29,6 @@ kind-nine (suc (suc (suc (suc (suc (suc (suc (suc (suc zero))))))))) n0 n1 n2 n3
 kind-nine (suc (suc (suc (suc (suc (suc (suc (suc (suc (suc k)))))))))) n0 n1 n2 n3 n4 n5 n6 n7 n8 l = absurd (omega arith)
 
 module _ (t : List ℕ) where
-  pub belongs-operand : u8At t 0 ≡ 6 → belongs (recordAt one t) ≡ true
-  belongs-operand e = ap belongs (kind-operand t e)
-
   pub belongs-target : u8At t 0 ≡ 8 → belongs (recordAt one t) ≡ true
   belongs-target e = ap belongs (kind-target t e)
 

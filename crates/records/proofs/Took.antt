@@ -7,11 +7,11 @@ use Prim.Native.Nat.{ℕ}
 use native.Mathlib.Omega.{arith}
 use lib.Dec.{ltb, eqb}
 use lib.ListN.{length}
-use Rattle.records.specs.Pick.{pick, _and_, _or_, has}
-use Rattle.records.specs.Edition.{Edition}
+use Rattle.fields.specs.Pick.{pick, _and_, _or_, has}
+use Rattle.fields.specs.Edition.{Edition}
 use Rattle.records.specs.declared.Refusal.{Refusal}
-use Rattle.records.specs.Fields.{fieldsOf, endFieldsOf, leastTargets, mostTargets, instructionFits, terminatorFits}
-use Rattle.records.specs.Record.{Operand, Rec, header, storage, function, abi, block, instruction, operand, terminator, target, end, headerFits, storageFits, abiFits, wordOf}
+use Rattle.fields.specs.Fields.{fieldsOf, endFieldsOf, leastTargets, mostTargets, instructionFits, terminatorFits}
+use Rattle.fields.specs.Record.{Operand, Rec, header, storage, function, abi, block, instruction, operand, terminator, target, end, headerFits, storageFits, abiFits, wordOf}
 use Rattle.records.specs.Units.{noUnit}
 use Rattle.records.specs.Step.{nothing, State, Turn, next, refused, need, atStart, inStorages, inAbi, inBlock, afterBlock, atEnd, withHeader, withStorage, withFunction, withBlock, withOpened, withNumber, withUnit, opened, withGiven, withTarget, wordStep, unitStep, finished, operandFits, operandStep, admit, take, belongs, leaves, step}
 

@@ -3,9 +3,9 @@ use Prim.Native.Nat.{ℕ, zero, suc, _+_}
 use mathlib.Core.List.{List, [], _∷_}
 use lib.Dec.{ltb, eqb}
 use lib.ListN.{length, take as takeN, drop}
-use Rattle.records.specs.Pick.{pick}
-use Rattle.records.specs.Edition.{Edition}
-use Rattle.records.specs.Record.{Rec, Read, whole, fault, read, recordAt}
+use Rattle.fields.specs.Pick.{pick}
+use Rattle.fields.specs.Edition.{Edition}
+use Rattle.fields.specs.Record.{Rec, Read, whole, fault, read, recordAt}
 use Rattle.records.specs.Step.{State, start, Turn, next, refused, step, atEnd}
 use Rattle.records.specs.declared.Refusal.{Refusal}
 use Rattle.records.specs.declared.Refusal.the-variants.{Form, Limit}

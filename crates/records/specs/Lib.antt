@@ -1,13 +1,9 @@
-pub mod Pick
-pub mod Edition
 pub mod Refusal
-pub mod Fields
-pub mod Record
 pub mod Units
 pub mod Step
 pub mod Check
+pub mod Index
 pub mod Outcome
 pub mod Program
 pub mod Place
-pub mod Table
 pub mod Mirror

@@ -5,12 +5,14 @@ use mathlib.Core.List.{List, [], _∷_}
 use Prim.Native.Nat.{ℕ, suc, _+_, _*_, _/_, _%_, _≤_, _<_}
 use lib.ListN.{length, getD, take}
 use Rattle.rows.specs.Row.{pack}
-use Rattle.records.specs.Pick.{has, times}
-use Rattle.records.specs.Fields.{missing}
+use Rattle.fields.specs.Pick.{has, times}
+use Rattle.fields.specs.Fields.{missing}
+use Rattle.fields.specs.Record.{Rec}
 use Rattle.records.specs.Step.{Opened, State, Turn, next, refused, lastField}
 use Rattle.records.specs.Check.{Answer, units, refusal}
+use Rattle.records.specs.Index.{listed, entered}
 use Rattle.records.specs.Outcome.{laid}
-use Rattle.records.specs.Table.{rowWord}
+use Rattle.fields.specs.Table.{rowWord}
 use Rattle.records.specs.declared.Checked.{Checked}
 use Rattle.records.specs.declared.Checked.the-variants as checked
 use Rattle.records.specs.declared.pending.Pending.{Pending}
@@ -79,12 +81,13 @@ pub record Chained (us heads nexts : List ℕ) : Type 0 where
   pub nextIs : (i k : ℕ) → i < length us → getD nexts i 0 ≡ suc k → bucketOf (getD us k 0) ≡ bucketOf (getD us i 0)
   pub nextLast : (i j : ℕ) → i < length us → getD nexts i 0 ≤ j → j < i → bucketOf (getD us j 0) ≡ bucketOf (getD us i 0) → ⊥
 
--- The lent words hold the lists of a state: rows of ids and of function numbers, this function's blocks, the units with their chains, and the unit
+-- The lent words hold the lists of a state: a row of ids, a table of functions, this function's blocks, the units with their chains, and the unit
 -- number of each record that names one.
-pub record Holds (s : State) (ids functions blocks words heads nexts numbers : List ℕ) : Type 0 where
+pub record Holds (s : State) (ids table blocks words heads nexts numbers : List ℕ) : Type 0 where
   pub idRow : ids ≡ pack 4 (λ n. has n (s .ids))
   pub idLow : (n : ℕ) → has n (s .ids) ≡ true → n < 256
-  pub functionRow : functions ≡ pack 4 (λ n. has n (s .functions))
+  pub manyEntries : length table ≡ 512
+  pub functionList : (n : ℕ) → n < 256 → listed table n ≡ has n (s .functions)
   pub manyBlocks : length blocks ≡ 128
   pub blockList : take (length (s .blocks)) blocks ≡ s .blocks
   pub unitsMost : length (s .units) ≤ 512
@@ -92,10 +95,16 @@ pub record Holds (s : State) (ids functions blocks words heads nexts numbers : L
   pub chains : Chained (s .units) heads nexts
   pub numberList : take (length (s .numbers)) numbers ≡ s .numbers
 
+-- The same, and the record at a place is entered in the table of functions.
+pub record Enters (s : State) (x : Rec) (at k : ℕ) (before ids table blocks words heads nexts numbers : List ℕ) : Type 0 where
+  pub holds : Holds s ids table blocks words heads nexts numbers
+  pub table-is : table ≡ entered x at k before
+
 -- What the code relies on at a record, whatever the file: the lengths of the lent words, and counts that are within them.
-pub record Sane (c : Reader) (ids functions blocks words heads nexts numbers : List ℕ) : Type 0 where
+pub record Sane (c : Reader) (at : ℕ) (ids table blocks words heads nexts numbers : List ℕ) : Type 0 where
+  pub early : at ≤ 16384
   pub manyIds : length ids ≡ 4
-  pub manyFunctions : length functions ≡ 4
+  pub manyEntries : length table ≡ 512
   pub manyBlocks : length blocks ≡ 128
   pub manyWords : length words ≡ 512
   pub low : Low heads nexts
@@ -104,13 +113,14 @@ pub record Sane (c : Reader) (ids functions blocks words heads nexts numbers : L
   pub seenMost : c .now .seen ≤ 16
   pub lacksMost : c .now .lacks ≤ 6
   pub room : c .named < length numbers
+  pub namedMost : c .named ≤ 2341
 
 -- What a turn comes to in code: the numbers of the next state, with what then holds of the lent words; or the refusal.
 abbrev pub Comes : Turn → Taken → (State → Type 0) → Type 0
 Comes (next s) r P = (r ≡ Next (readerOf s)) × P s
 Comes (refused x) r P = r ≡ Refused x
 
--- What reading the whole file comes to: the units with their numbers, or the refusal.
-abbrev pub Walked : Answer → Checked → List ℕ → List ℕ → List ℕ → Type 0
-Walked (units us) r words found ns = (r ≡ checked.Units (length us)) × (words ≡ laid 512 us []) × (take (length ns) found ≡ ns)
-Walked (refusal x) r words found ns = r ≡ checked.Refused x
+-- What reading the whole file comes to: the units with their numbers and the table of functions, or the refusal.
+abbrev pub Walked : Answer → Checked → List ℕ → List ℕ → List ℕ → List ℕ → List ℕ → Type 0
+Walked (units us) r words found ns table ts = (r ≡ checked.Units (length us)) × (words ≡ laid 512 us []) × (take (length ns) found ≡ ns) × (table ≡ ts)
+Walked (refusal x) r words found ns table ts = r ≡ checked.Refused x

@@ -5,9 +5,10 @@ use Prim.Native.Nat.{ℕ, _-_}
 use mathlib.Core.List.{List, [], _++_}
 use lib.Dec.{ltb}
 use lib.ListN.{length, take, drop, replicate}
-use Rattle.records.specs.Pick.{pick}
-use Rattle.records.specs.Edition.{Edition, one}
+use Rattle.fields.specs.Pick.{pick}
+use Rattle.fields.specs.Edition.{Edition, one}
 use Rattle.records.specs.Check.{Answer, units, refusal, check, numbers}
+use Rattle.records.specs.Index.{tabled}
 use Rattle.records.specs.declared.Checked.{Checked}
 use Rattle.records.specs.declared.Checked.the-variants.{Units, Refused}
 use Rattle.records.specs.declared.Refusal.the-variants.{Short}
@@ -35,8 +36,9 @@ outcome ed f before =
 abbrev pub Checks : List ℕ → List ℕ → Checked → List ℕ → Type 0
 Checks f before r words = record { answer = r; words = words } ≡ outcome one f before
 
--- The same of a buffer of just the needed words, with the unit number of each ABI record and operand of an accepted file in a second one.
-abbrev pub Numbers : List ℕ → Checked → List ℕ → List ℕ → Type 0
-Numbers f r words found =
+-- The same of a buffer of just the needed words; and of an accepted file, the unit number of each ABI record and operand in a second one, and the
+-- table of functions in a third.
+abbrev pub Numbers : List ℕ → Checked → List ℕ → List ℕ → List ℕ → Type 0
+Numbers f r words found table =
     (record { answer = r; words = words } ≡ outcomeBy one [] (check one f))
-    × ((us : List ℕ) → check one f ≡ units us → take (length (numbers one f)) found ≡ numbers one f)
+    × ((us : List ℕ) → check one f ≡ units us → (take (length (numbers one f)) found ≡ numbers one f) × (table ≡ tabled one f))

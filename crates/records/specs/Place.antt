@@ -4,9 +4,9 @@ use mathlib.Core.Bool.{true, false}
 use mathlib.Core.List.{List, [], _∷_}
 use lib.Dec.{eqb}
 use lib.ListN.{length}
-use Rattle.records.specs.Pick.{pick}
-use Rattle.records.specs.Edition.{Edition}
-use Rattle.records.specs.Record.{Rec, header, storage, function, abi, block, instruction, operand, terminator, target, end, recordAt}
+use Rattle.fields.specs.Pick.{pick}
+use Rattle.fields.specs.Edition.{Edition}
+use Rattle.fields.specs.Record.{Rec, header, storage, function, abi, block, instruction, operand, terminator, target, end, recordAt}
 use Rattle.records.specs.Check.{pieces, recordsIn}
 use Rattle.records.specs.Program.{Step, Function, Rest, stepOf, functionOf, gather}
 

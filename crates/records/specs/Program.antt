@@ -3,9 +3,9 @@
 use Prim.Native.Nat.{ℕ}
 use mathlib.Core.Bool.{Bool, true, false}
 use mathlib.Core.List.{List, [], _∷_}
-use Rattle.records.specs.Edition.{Edition}
-use Rattle.records.specs.Fields.{Field, fieldsOf, endFieldsOf, leastTargets, mostTargets, instructionFits, terminatorFits}
-use Rattle.records.specs.Record.{Storage, Abi, Operand, Rec, header, storage, function, abi, block, instruction, operand, terminator, target, end}
+use Rattle.fields.specs.Edition.{Edition}
+use Rattle.fields.specs.Fields.{Field, fieldsOf, endFieldsOf, leastTargets, mostTargets, instructionFits, terminatorFits}
+use Rattle.fields.specs.Record.{Storage, Abi, Operand, Rec, header, storage, function, abi, block, instruction, operand, terminator, target, end}
 use Rattle.records.specs.Check.{records}
 
 -- an instruction, or a terminator (`ends`); only the latter has targets

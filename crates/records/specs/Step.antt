@@ -4,10 +4,10 @@ use mathlib.Core.Bool.{Bool, true, false}
 use mathlib.Core.List.{List, [], _∷_, _++_}
 use lib.Dec.{ltb, leb, eqb}
 use lib.ListN.{getD, length}
-use Rattle.records.specs.Pick.{pick, _and_, _or_, has, times}
-use Rattle.records.specs.Edition.{Edition}
-use Rattle.records.specs.Fields.{Field, noField, fieldsOf, endFieldsOf, leastTargets, mostTargets, instructionFits, terminatorFits, most, missing, takes, greatest, wellFormed}
-use Rattle.records.specs.Record.{Operand, Rec, header, storage, function, abi, block, instruction, operand, terminator, target, end, headerFits, storageFits, abiFits, wordOf}
+use Rattle.fields.specs.Pick.{pick, _and_, _or_, has, times}
+use Rattle.fields.specs.Edition.{Edition}
+use Rattle.fields.specs.Fields.{Field, fieldsOf, endFieldsOf, leastTargets, mostTargets, instructionFits, terminatorFits, most, missing, takes, greatest, wellFormed, fieldAt}
+use Rattle.fields.specs.Record.{Operand, Rec, header, storage, function, abi, block, instruction, operand, terminator, target, end, headerFits, storageFits, abiFits, wordOf}
 use Rattle.records.specs.Units.{numberIn, noted, noUnit}
 use Rattle.records.specs.declared.Refusal.{Refusal}
 use Rattle.records.specs.declared.Refusal.the-variants.{Form, Repeated, Undeclared, Limit}
@@ -156,12 +156,9 @@ follows (terminator op sub fn) s = eqb (s .stage) inBlock
 follows (target id) s = ltb (s .now .targets) (s .now .most)
 follows end s = eqb (s .stage) inAbi or eqb (s .stage) afterBlock
 
--- The field of the last operand, 0 where there is none; the field of a number, none past the row.
+-- The field of the last operand, 0 where there is none.
 unfoldable pub lastField : List ℕ → ℕ
 lastField given = getD given 0 0
-
-abbrev pub fieldAt : List Field → ℕ → Field
-fieldAt row field = getD row field noField
 
 -- Operands come field by field, no field has more than it takes, and the shape is one of the class's.
 unfoldable pub operandFits : List Field → List ℕ → Operand → Bool

@@ -2,7 +2,7 @@
 use Prim.Native.Nat.{ℕ, suc}
 use mathlib.Core.List.{List, [], _∷_, _++_}
 use lib.Dec.{eqb}
-use Rattle.records.specs.Pick.{pick, has}
+use Rattle.fields.specs.Pick.{pick, has}
 
 -- The number of a unit is the first place of its word among the units; where it is not there, the number of units.
 unfoldable pub numberIn : ℕ → List ℕ → ℕ

@@ -1,13 +1,11 @@
-// The program file: what a record is, what it may hold, and `check`, which answers every byte string.
-// Knows bytes and bit rows; gives the refusals, the reader of records with their fields, and the numbered units of a file.
+// The program file: which records may follow one another, and `check`, which answers every byte string.
+// Knows the fields of records and bit rows; gives the refusals, the reader of records, and the numbered units and the table of functions of a file.
 mod buckets;
-pub mod bytes;
+mod index;
 mod naming;
 mod pending;
-mod ranges;
 mod reader;
 mod step;
-pub mod table;
 mod walk;
 
 ghost use mathlib.Core.Path.{_≡_};
@@ -89,16 +87,23 @@ pub fn clear(words: &mut [u32])
     }
 }
 
-// The units of a file, and beside them, for the walks that come after, the unit number of each ABI record and operand in file order.
-pub fn number_units(file: &[u8], words: &mut [u32], numbers: &mut [u16]) -> Checked
-    requires { ⌜ (length (now words) ≡ 512) × (2341 ≤ length (now numbers)) ⌝ }
-    ensures { λ r. ⌜ Numbers (now (file .entry)) r (now (words .exit)) (now (numbers .exit)) ⌝ }
+// The units of a file, and beside them, for the walks that come after, the unit number of each ABI record and operand in file order and the
+// table of functions.
+pub fn number_units(
+    file: &[u8],
+    words: &mut [u32],
+    numbers: &mut [u16],
+    table: &mut [u16],
+) -> Checked
+    requires { ⌜ (length (now words) ≡ 512) × (2341 ≤ length (now numbers)) × (length (now table) ≡ 512) ⌝ }
+    ensures { λ r. ⌜ Numbers (now (file .entry)) r (now (words .exit)) (now (numbers .exit)) (now (table .exit)) ⌝ }
 {
     clear(words);
     if 16384 < file.len() {
         return Checked::Refused(Refusal::Limit(16384));
     }
-    match walk::walk(file, words, numbers) {
+    index::blank(table);
+    match walk::walk(file, words, numbers, table) {
         Checked::Units(n) => Checked::Units(n),
         Checked::Refused(r) => {
             clear(words);
@@ -115,5 +120,6 @@ pub fn check(file: &[u8], units: &mut [u32]) -> Checked
         return Checked::Refused(Refusal::Short);
     }
     let mut numbers = [0u16; 2341];
-    number_units(file, &mut units[..512], &mut numbers)
+    let mut table = [0u16; 512];
+    number_units(file, &mut units[..512], &mut numbers, &mut table)
 }

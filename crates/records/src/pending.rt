@@ -4,16 +4,15 @@ ghost use mathlib.Core.List.{List};
 ghost use Prim.Native.Nat.{_+_, _-_, _<_, _≤_};
 ghost use lib.Dec.{eqb};
 ghost use lib.ListN.{length};
-ghost use Rattle.records.specs.Pick.{pick};
-ghost use Rattle.records.specs.Fields.{Field};
-ghost use Rattle.records.specs.Record.{operandIn};
+ghost use Rattle.fields.specs.Pick.{pick};
+ghost use Rattle.fields.specs.Fields.{Field};
+ghost use Rattle.fields.specs.Record.{operandIn};
 ghost use Rattle.records.specs.Step.{Opened, nothing, opened, withGiven, withTarget, lastField, operandFits, finished};
-ghost use Rattle.records.specs.Table.{entryOf, lacksIn};
+ghost use Rattle.fields.specs.Table.{entryOf, lacksIn};
 ghost use Rattle.records.specs.Mirror.{Rising, pendingOf};
-use crate::bytes::u16_at;
-use crate::table::field_in;
-use crate::table::lacks_in;
-use crate::table::operand_fits;
+use fields::bytes::u16_at;
+use fields::table::field_in;
+use fields::table::operand_fits;
 
 // Its place, its fields, the field of its last operand with how many it has, how many operands are missing, and its targets: the least, the most,
 // and those that are there.
@@ -88,21 +87,39 @@ pub fn operand_fits_in(o: Pending, tail: &[u8]) -> bool
     )
 }
 
-fn less(a: u8, b: u8) -> u8
-    ensures { λ r. ⌜ r ≡ a - b ⌝ }
+fn one_less(n: u8) -> u8
+    ensures { λ r. ⌜ r ≡ n - 1 ⌝ }
 {
-    if a < b {
+    if n == 0 {
         return 0;
     }
-    a - b
+    n - 1
 }
 
-// What is missing after an operand of the field `b`, which had `n` before.
+// What is missing after an operand of the field `b`, which had `n` before: the one that must be there is missing no more, and of none or two the
+// first makes the second missing.
 fn lacks_after(lacks: u8, b: u8, n: u8) -> u8
     requires { ⌜ (lacks ≤ 6) × (n ≤ 16) ⌝ }
     ensures { λ r. ⌜ r ≡ lacks + lacksIn b (n + 1) - lacksIn b n ⌝ }
 {
-    less(lacks + lacks_in(b, n + 1), lacks_in(b, n))
+    if b == 0 {
+        return lacks;
+    }
+    if b / 8 % 4 == 0 {
+        if n == 0 {
+            return one_less(lacks);
+        }
+        return lacks;
+    }
+    if b / 8 % 4 == 3 {
+        if n == 0 {
+            return lacks + 1;
+        }
+        if n == 1 {
+            return one_less(lacks);
+        }
+    }
+    lacks
 }
 
 // One operand more, of a field that is no lower than the last.

@@ -4,13 +4,14 @@ ghost use mathlib.Core.List.{List};
 ghost use Prim.Native.Nat.{ℕ, _<_, _≤_};
 ghost use lib.Dec.{eqb};
 ghost use lib.ListN.{length, take};
-ghost use Rattle.records.specs.Pick.{has, _and_, _or_};
-ghost use Rattle.records.specs.Edition.{one};
-ghost use Rattle.records.specs.Record.{storage, function, abi, block, operand, target, end, u8At, u16At, lengthOf, headerAt, storageIn, abiIn, instructionAt, operandIn, terminatorAt, recordAt};
+ghost use Rattle.fields.specs.Pick.{has, _and_, _or_};
+ghost use Rattle.fields.specs.Edition.{one};
+ghost use Rattle.fields.specs.Record.{storage, function, abi, block, operand, target, end, u8At, u16At, lengthOf, headerAt, storageIn, abiIn, instructionAt, operandIn, terminatorAt, recordAt};
 ghost use Rattle.records.specs.Step.{Opened, State, inStorages, inAbi, inBlock, afterBlock, withFunction, withBlock, belongs, leaves, finished, step, take as taken};
-ghost use Rattle.records.specs.Mirror.{Kept, pendingOf, readerOf, Low, Holds, Sane, Comes};
+ghost use Rattle.records.specs.Mirror.{Kept, pendingOf, readerOf, Low, Holds, Enters, Sane, Comes};
 use crate::Refusal;
-use crate::bytes::u16_at;
+use crate::index::enter;
+use crate::index::is_listed;
 use crate::naming::admit_immediate;
 use crate::naming::admit_unit;
 use crate::pending::Pending;
@@ -20,11 +21,6 @@ use crate::pending::open_at;
 use crate::pending::operand_fits_in;
 use crate::pending::with_given;
 use crate::pending::with_target;
-use crate::ranges::abi_fits;
-use crate::ranges::header_fits;
-use crate::ranges::instruction_fits;
-use crate::ranges::storage_fits;
-use crate::ranges::terminator_fits;
 use crate::reader::AFTER_BLOCK;
 use crate::reader::AT_END;
 use crate::reader::AT_START;
@@ -34,10 +30,16 @@ use crate::reader::IN_STORAGES;
 use crate::reader::Reader;
 use crate::reader::Taken;
 use crate::reader::with_now;
-use crate::table::end_entry_of;
-use crate::table::entry_of;
-use crate::table::least_targets;
-use crate::table::most_targets;
+use fields::bytes::u16_at;
+use fields::ranges::abi_fits;
+use fields::ranges::header_fits;
+use fields::ranges::instruction_fits;
+use fields::ranges::storage_fits;
+use fields::ranges::terminator_fits;
+use fields::table::end_entry_of;
+use fields::table::entry_of;
+use fields::table::least_targets;
+use fields::table::most_targets;
 
 pub fn take_header(c: Reader, tail: &[u8], at: usize) -> Taken
     requires { ⌜ 7 ≤ length (now tail) ⌝ }
@@ -108,20 +110,21 @@ fn after_function(c: Reader) -> Reader
     }
 }
 
-pub fn take_function(c: Reader, tail: &[u8], at: usize, functions: &mut [u64]) -> Taken
-    requires { ⌜ (2 ≤ length (now tail)) × (length (now functions) ≡ 4) ⌝ }
-    ensures { λ r. ⌜ ((s : State) (is bs ws hs ns ks : List ℕ) → c ≡ readerOf s → Holds s is (now (functions .entry)) bs ws hs ns ks
-        → Comes (taken one s at (function (u8At (now (tail .entry)) 1))) r (λ s′. Holds s′ is (now (functions .exit)) bs ws hs ns ks)) ⌝ }
+pub fn take_function(c: Reader, tail: &[u8], at: usize, table: &mut [u16]) -> Taken
+    requires { ⌜ (2 ≤ length (now tail)) × (length (now table) ≡ 512) × (at ≤ 16384) × (c .named ≤ 2341) ⌝ }
+    ensures { λ r. ⌜ ((s : State) (is bs ws hs ns ks : List ℕ) → c ≡ readerOf s → Holds s is (now (table .entry)) bs ws hs ns ks
+        → Comes (taken one s at (function (u8At (now (tail .entry)) 1))) r
+        (λ s′. Enters s′ (function (u8At (now (tail .entry)) 1)) at (c .named) (now (table .entry)) is (now (table .exit)) bs ws hs ns ks)) ⌝ }
 {
     if function_follows(c.stage) {
         let number = tail[1] as usize;
-        if rows::has(functions, 0, number) {
+        if is_listed(table, number) {
             return Taken::Refused(Refusal::Repeated(at));
         }
         if 64 <= c.functions {
             return Taken::Refused(Refusal::Limit(at));
         }
-        rows::insert(functions, 0, number);
+        enter(table, number, at, c.named);
         return Taken::Next(after_function(c));
     }
     Taken::Refused(Refusal::Form(at))
@@ -326,19 +329,20 @@ fn take_plain(
     tail: &[u8],
     at: usize,
     ids: &mut [u64],
-    functions: &mut [u64],
+    table: &mut [u16],
     blocks: &mut [u16],
 ) -> Taken
     requires { ⌜ (lengthOf one kind ≤ length (now tail)) × (kind < 10) × (kind ≡ 3 → ⊥) × (kind ≡ 6 → ⊥)
-        × (length (now ids) ≡ 4) × (length (now functions) ≡ 4) × (length (now blocks) ≡ 128) × (c .blocks ≤ 128) ⌝ }
+        × (length (now ids) ≡ 4) × (length (now table) ≡ 512) × (length (now blocks) ≡ 128) × (c .blocks ≤ 128) × (at ≤ 16384) × (c .named ≤ 2341) ⌝ }
     ensures { λ r. ⌜ ((s : State) (ws hs ns ks : List ℕ) → c ≡ readerOf s → u8At (now (tail .entry)) 0 ≡ kind
-        → Holds s (now (ids .entry)) (now (functions .entry)) (now (blocks .entry)) ws hs ns ks
-        → Comes (taken one s at (recordAt one (now (tail .entry)))) r (λ s′. Holds s′ (now (ids .exit)) (now (functions .exit)) (now (blocks .exit)) ws hs ns ks)) ⌝ }
+        → Holds s (now (ids .entry)) (now (table .entry)) (now (blocks .entry)) ws hs ns ks
+        → Comes (taken one s at (recordAt one (now (tail .entry)))) r
+        (λ s′. Enters s′ (recordAt one (now (tail .entry))) at (c .named) (now (table .entry)) (now (ids .exit)) (now (table .exit)) (now (blocks .exit)) ws hs ns ks)) ⌝ }
 {
     match kind {
         0 => take_header(c, tail, at),
         1 => take_storage(c, tail, at, ids),
-        2 => take_function(c, tail, at, functions),
+        2 => take_function(c, tail, at, table),
         4 => take_block(c, tail, at, blocks),
         5 => take_instruction(c, tail, at),
         7 => take_terminator(c, tail, at),
@@ -347,42 +351,10 @@ fn take_plain(
     }
 }
 
-// The record at the front of a tail, by its kind.
-fn take_record(
-    c: Reader,
-    kind: u8,
-    tail: &[u8],
-    at: usize,
-    ids: &mut [u64],
-    functions: &mut [u64],
-    blocks: &mut [u16],
-    words: &mut [u32],
-    heads: &mut [u16],
-    nexts: &mut [u16],
-    numbers: &mut [u16],
-) -> Taken
-    requires { ⌜ (lengthOf one kind ≤ length (now tail)) × (kind < 10) × Sane c (now ids) (now functions) (now blocks) (now words) (now heads) (now nexts) (now numbers) ⌝ }
-    ensures { λ r. ⌜ ((s : State) → c ≡ readerOf s → Kept s → u8At (now (tail .entry)) 0 ≡ kind
-        → Holds s (now (ids .entry)) (now (functions .entry)) (now (blocks .entry)) (now (words .entry)) (now (heads .entry)) (now (nexts .entry)) (now (numbers .entry))
-        → Comes (taken one s at (recordAt one (now (tail .entry)))) r
-        (λ s′. Holds s′ (now (ids .exit)) (now (functions .exit)) (now (blocks .exit)) (now (words .exit)) (now (heads .exit)) (now (nexts .exit)) (now (numbers .exit)))) ⌝ }
-{
-    if kind == 6 {
-        return take_operand(c, tail, at, ids, words, heads, nexts, numbers);
-    }
-    if kind == 3 {
-        return take_abi(c, tail, at, ids, words, heads, nexts, numbers);
-    }
-    take_plain(c, kind, tail, at, ids, functions, blocks)
-}
-
-// An operand or a target goes to what is open; any other record finds it finished.
+// A target goes to what is open; any other record that is no operand finds it finished.
 fn goes_on(o: Pending, kind: u8) -> bool
-    ensures { λ r. ⌜ ((x : Opened) (t : List ℕ) → o ≡ pendingOf x → u8At t 0 ≡ kind → kind < 10 → r ≡ (belongs (recordAt one t) or finished x)) ⌝ }
+    ensures { λ r. ⌜ ((x : Opened) (t : List ℕ) → o ≡ pendingOf x → u8At t 0 ≡ kind → kind < 10 → (kind ≡ 6 → ⊥) → r ≡ (belongs (recordAt one t) or finished x)) ⌝ }
 {
-    if kind == 6 {
-        return true;
-    }
     if kind == 8 {
         return true;
     }
@@ -405,44 +377,73 @@ fn cuts(stage: u8, kind: u8) -> bool
     false
 }
 
-// The record at the front of a tail: first whether what came before it is complete.
-pub fn step_on(
+// A record that is no operand: first whether what came before it is complete.
+fn step_other(
     c: Reader,
     kind: u8,
     tail: &[u8],
     at: usize,
     ids: &mut [u64],
-    functions: &mut [u64],
+    table: &mut [u16],
     blocks: &mut [u16],
     words: &mut [u32],
     heads: &mut [u16],
     nexts: &mut [u16],
     numbers: &mut [u16],
 ) -> Taken
-    requires { ⌜ (lengthOf one kind ≤ length (now tail)) × (kind < 10) × Sane c (now ids) (now functions) (now blocks) (now words) (now heads) (now nexts) (now numbers) ⌝ }
+    requires { ⌜ (lengthOf one kind ≤ length (now tail)) × (kind < 10) × (kind ≡ 6 → ⊥) × Sane c at (now ids) (now table) (now blocks) (now words) (now heads) (now nexts) (now numbers) ⌝ }
     ensures { λ r. ⌜ ((s : State) → c ≡ readerOf s → Kept s → u8At (now (tail .entry)) 0 ≡ kind
-        → Holds s (now (ids .entry)) (now (functions .entry)) (now (blocks .entry)) (now (words .entry)) (now (heads .entry)) (now (nexts .entry)) (now (numbers .entry))
+        → Holds s (now (ids .entry)) (now (table .entry)) (now (blocks .entry)) (now (words .entry)) (now (heads .entry)) (now (nexts .entry)) (now (numbers .entry))
         → Comes (step one s at (recordAt one (now (tail .entry)))) r
-        (λ s′. Holds s′ (now (ids .exit)) (now (functions .exit)) (now (blocks .exit)) (now (words .exit)) (now (heads .exit)) (now (nexts .exit)) (now (numbers .exit)))) ⌝ }
+        (λ s′. Enters s′ (recordAt one (now (tail .entry))) at (c .named) (now (table .entry)) (now (ids .exit)) (now (table .exit)) (now (blocks .exit)) (now (words .exit)) (now (heads .exit)) (now (nexts .exit)) (now (numbers .exit)))) ⌝ }
 {
     let o = c.now;
     if goes_on(o, kind) {
         if cuts(c.stage, kind) {
             return Taken::Refused(Refusal::Form(c.block));
         }
-        return take_record(
-            c,
-            kind,
-            tail,
-            at,
-            ids,
-            functions,
-            blocks,
-            words,
-            heads,
-            nexts,
-            numbers,
-        );
+        if kind == 3 {
+            return take_abi(c, tail, at, ids, words, heads, nexts, numbers);
+        }
+        return take_plain(c, kind, tail, at, ids, table, blocks);
     }
     Taken::Refused(Refusal::Form(o.place))
+}
+
+// The record at the front of a tail. An operand belongs to what is open and leaves no block, so that nothing before it needs a test.
+pub fn step_on(
+    c: Reader,
+    kind: u8,
+    tail: &[u8],
+    at: usize,
+    ids: &mut [u64],
+    table: &mut [u16],
+    blocks: &mut [u16],
+    words: &mut [u32],
+    heads: &mut [u16],
+    nexts: &mut [u16],
+    numbers: &mut [u16],
+) -> Taken
+    requires { ⌜ (lengthOf one kind ≤ length (now tail)) × (kind < 10) × Sane c at (now ids) (now table) (now blocks) (now words) (now heads) (now nexts) (now numbers) ⌝ }
+    ensures { λ r. ⌜ ((s : State) → c ≡ readerOf s → Kept s → u8At (now (tail .entry)) 0 ≡ kind
+        → Holds s (now (ids .entry)) (now (table .entry)) (now (blocks .entry)) (now (words .entry)) (now (heads .entry)) (now (nexts .entry)) (now (numbers .entry))
+        → Comes (step one s at (recordAt one (now (tail .entry)))) r
+        (λ s′. Enters s′ (recordAt one (now (tail .entry))) at (c .named) (now (table .entry)) (now (ids .exit)) (now (table .exit)) (now (blocks .exit)) (now (words .exit)) (now (heads .exit)) (now (nexts .exit)) (now (numbers .exit)))) ⌝ }
+{
+    if kind == 6 {
+        return take_operand(c, tail, at, ids, words, heads, nexts, numbers);
+    }
+    step_other(
+        c,
+        kind,
+        tail,
+        at,
+        ids,
+        table,
+        blocks,
+        words,
+        heads,
+        nexts,
+        numbers,
+    )
 }

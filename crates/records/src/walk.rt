@@ -5,18 +5,19 @@ ghost use mathlib.Core.Logic.{_⊎_};
 ghost use Prim.Native.Nat.{_≤_, _<_};
 ghost use mathlib.Core.List.{[]};
 ghost use lib.ListN.{length};
-ghost use Rattle.records.specs.Edition.{one};
+ghost use Rattle.fields.specs.Edition.{one};
 ghost use Rattle.records.specs.Check.{check, numbers as numbersIn};
+ghost use Rattle.records.specs.Index.{bare, tabled};
 ghost use Rattle.records.specs.Outcome.{laid};
 ghost use Rattle.records.specs.Mirror.{Walked};
 use crate::Checked;
 use crate::Refusal;
-use crate::bytes::length_of;
-use crate::bytes::tail_of;
 use crate::reader::AT_END;
 use crate::reader::Taken;
 use crate::reader::start_reading;
 use crate::step::step_on;
+use fields::bytes::length_of;
+use fields::bytes::tail_of;
 
 // Is the record at the front of a tail not whole, or of no kind? `len` is how long its kind is.
 fn is_cut(tail: &[u8], len: usize) -> bool
@@ -29,12 +30,11 @@ fn is_cut(tail: &[u8], len: usize) -> bool
 }
 
 // What the file comes to once all of it is read.
-pub fn walk(file: &[u8], words: &mut [u32], numbers: &mut [u16]) -> Checked
-    requires { ⌜ (length (now file) ≤ 16384) × (now words ≡ laid 512 [] []) × (2341 ≤ length (now numbers)) ⌝ }
-    ensures { λ r. ⌜ Walked (check one (now (file .entry))) r (now (words .exit)) (now (numbers .exit)) (numbersIn one (now (file .entry))) ⌝ }
+pub fn walk(file: &[u8], words: &mut [u32], numbers: &mut [u16], table: &mut [u16]) -> Checked
+    requires { ⌜ (length (now file) ≤ 16384) × (now words ≡ laid 512 [] []) × (2341 ≤ length (now numbers)) × (now table ≡ bare) ⌝ }
+    ensures { λ r. ⌜ Walked (check one (now (file .entry))) r (now (words .exit)) (now (numbers .exit)) (numbersIn one (now (file .entry))) (now (table .exit)) (tabled one (now (file .entry))) ⌝ }
 {
     let mut ids = [0u64; 4];
-    let mut functions = [0u64; 4];
     let mut blocks = [0u16; 128];
     let mut heads = [0u16; 256];
     let mut nexts = [0u16; 512];
@@ -53,7 +53,7 @@ pub fn walk(file: &[u8], words: &mut [u32], numbers: &mut [u16]) -> Checked
             tail,
             at,
             &mut ids,
-            &mut functions,
+            table,
             &mut blocks,
             words,
             &mut heads,

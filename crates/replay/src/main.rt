@@ -1,7 +1,7 @@
 // The program `replay`: prints the report of each program file that standard input holds. They stand
 // there one after another, each behind its length in two bytes, the low one first.
+use fields::bytes::u16_at;
 use libc::STDIN_FILENO;
-use records::bytes::u16_at;
 
 // A proved loop has to end, and nothing says that the input does. So the loop counts its turns down,
 // from a number that no run uses up.

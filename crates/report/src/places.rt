@@ -1,7 +1,7 @@
 // The records of an accepted file, place by place. A place is where a record's kind byte stands.
 // The readers answer 0 where a file ends too early, which no accepted file does.
-use records::bytes::length_of;
-use records::bytes::u16_at;
+use fields::bytes::length_of;
+use fields::bytes::u16_at;
 ghost use Prim.Native.Nat.{_<_, _≤_};
 ghost use lib.ListN.{length};
 

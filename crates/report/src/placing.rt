@@ -5,7 +5,7 @@ use crate::page::put_word;
 use crate::page::room;
 use crate::places::wide;
 use allocator::Placing;
-use records::bytes::u16_at;
+use fields::bytes::u16_at;
 ghost use Prim.Native.Nat.{_<_, _≤_};
 ghost use lib.ListN.{length};
 

@@ -1,7 +1,7 @@
 -- Rows as sets, for any number of words. A number is one bit of one word, so each operation's law is the law of that bit;
 -- a store changes one word, and of it one bit; and rows of 64-bit words that have the same members have the same bits.
 use mathlib.Core.Path.{_≡_, refl, sym, ap, _∙_}
-use mathlib.Core.Bool.{Bool, true, false, not, _&&_, _||_, or-true, or-false, and-true, and-false}
+use mathlib.Core.Bool.{Bool, true, false, not, _&&_, _||_, or-true, or-false}
 use mathlib.Core.Logic.{_⊎_, inl, inr, ⊎-elim}
 use mathlib.Core.List.{List, _∷_}
 use Prim.Native.Nat.{ℕ, suc, _+_, _-_, _*_, _/_, _%_, _^_, _≤_, _<_}
@@ -13,7 +13,7 @@ use lib.Pow.{pow-lt}
 use lib.Bits.{bitOr, or-lt}
 use lib.Dec.{eqb, lit<}
 use borrow.Author.Tests.{eqb-true, eqb-false}
-use Rattle.rows.specs.Row.{Apart, Words, bit, less, member, memberAt, with, without, withAt, withoutAt, row, put, orRow, lessRow}
+use Rattle.rows.specs.Row.{Apart, Words, bit, less, member, memberAt, with, withAt, row, put, orRow, lessRow}
 use Rattle.rows.proofs.Digit.{bit-or, bit-less, bit-eq, bit-zero, bit-pow-same, bit-pow-other, word-ext, less-lt}
 use Rattle.rows.proofs.Rows.{lt-or-ge, getD-row, getD-row-past, length-row, row-set-other, getD-zip, getD-put-in, getD-put-out, strides-apart}
 
@@ -62,10 +62,6 @@ module _ (r : List ℕ) (n : ℕ) where
   unfolding withAt with
   with-at-zero = rw zero-add
 
-  pub without-at-zero : withoutAt r 0 n ≡ without r n
-  unfolding withoutAt without
-  without-at-zero = rw zero-add
-
 pub member-row : (ws : List ℕ) (b w n : ℕ) → n < 64 * w → member (row ws b w) n ≡ memberAt ws b n
 unfolding member memberAt
 member-row ws b w n h = ap (λ (x : ℕ). bit x (n % 64)) (getD-row ws b w (n / 64) (omega arith))
@@ -76,40 +72,22 @@ row-with ws b w n h =
     let k : n / 64 < w = omega arith in
     rw (drop-set-add, take-set-lt w (drop b ws) (n / 64) _ k, getD-row ws b w (n / 64) k)
 
-pub row-without : (ws : List ℕ) (b w n : ℕ) → n < 64 * w → row (withoutAt ws b n) b w ≡ without (row ws b w) n
-unfolding withoutAt without row
-row-without ws b w n h =
-    let k : n / 64 < w = omega arith in
-    rw (drop-set-add, take-set-lt w (drop b ws) (n / 64) _ k, getD-row ws b w (n / 64) k)
-
 module _ (ws : List ℕ) (b n : ℕ) where
   pub length-with-at : length (withAt ws b n) ≡ length ws
   unfolding withAt
   length-with-at = length-set ws _ _
-
-  pub length-without-at : length (withoutAt ws b n) ≡ length ws
-  unfolding withoutAt
-  length-without-at = length-set ws _ _
 
 -- A row that the changed one does not meet stays.
 pub row-with-other : (ws : List ℕ) (b w n b′ w′ : ℕ) → n < 64 * w → Apart b w b′ w′ → row (withAt ws b n) b′ w′ ≡ row ws b′ w′
 unfolding withAt
 row-with-other ws b w n b′ w′ h a = row-set-other ws _ _ b′ w′ (⊎-elim (λ p. inl (omega arith)) (λ p. inr (omega arith)) a)
 
-pub row-without-other : (ws : List ℕ) (b w n b′ w′ : ℕ) → n < 64 * w → Apart b w b′ w′ → row (withoutAt ws b n) b′ w′ ≡ row ws b′ w′
-unfolding withoutAt
-row-without-other ws b w n b′ w′ h a = row-set-other ws _ _ b′ w′ (⊎-elim (λ p. inl (omega arith)) (λ p. inr (omega arith)) a)
-
--- ---- membership after one insertion or removal
+-- ---- membership after one insertion
 
 module _ (r : List ℕ) (n : ℕ) where
   pub length-with : length (with r n) ≡ length r
   unfolding with
   length-with = length-set r _ _
-
-  pub length-without : length (without r n) ≡ length r
-  unfolding without
-  length-without = length-set r _ _
 
 module _ (w k : ℕ) where
   bit-with-same : bit (bitOr w (2 ^ k)) k ≡ true
@@ -117,12 +95,6 @@ module _ (w k : ℕ) where
 
   bit-with-other : (i : ℕ) → (i ≡ k → ⊥) → bit (bitOr w (2 ^ k)) i ≡ bit w i
   bit-with-other i h = rw (bit-or, bit-pow-other k i h) (or-false (bit w i))
-
-  bit-without-same : bit (less w (2 ^ k)) k ≡ false
-  bit-without-same = bit-less w (2 ^ k) k ∙ rw bit-pow-same (and-false (bit w k))
-
-  bit-without-other : (i : ℕ) → (i ≡ k → ⊥) → bit (less w (2 ^ k)) i ≡ bit w i
-  bit-without-other i h = bit-less w (2 ^ k) i ∙ rw (bit-pow-other k i h) (and-true (bit w i))
 
 -- Two numbers are equal by word and bit, so if they differ, then in one of them.
 word-or-bit : (m n : ℕ) → (m ≡ n → ⊥) → (m / 64 ≡ n / 64 → ⊥) ⊎ ((m / 64 ≡ n / 64) × (m % 64 ≡ n % 64 → ⊥))
@@ -165,35 +137,6 @@ module _ (r : List ℕ) (n : ℕ) (h : n < 64 * length r) where
       go : (t : Bool) → eqb m n ≡ t → member (with r n) m ≡ (t || member r m)
       go true e = rw (eqb-true m n e) member-with-same
       go false e = member-with-other m (eqb-false m n e)
-
--- Taking out needs no bound: past its words a row has no members, and `without` leaves it.
-pub without-past : (r : List ℕ) (n : ℕ) → 64 * length r ≤ n → without r n ≡ r
-unfolding without
-without-past r n h = set-out r (n / 64) _ (omega arith)
-
-module _ (r : List ℕ) (n : ℕ) where
-  pub member-without-same : member (without r n) n ≡ false
-  unfolding without
-  member-without-same =
-      ⊎-elim
-      (λ (h : n < 64 * length r). member-set-same r n _ h ∙ bit-without-same (getD r (n / 64) 0) (n % 64))
-      (λ (h : 64 * length r ≤ n). rw (without-past r n h) (member-past r n h))
-      (lt-or-ge n (64 * length r))
-
-  pub member-without-other : (m : ℕ) → (m ≡ n → ⊥) → member (without r n) m ≡ member r m
-  unfolding without
-  member-without-other m d =
-      ⊎-elim
-      (λ (h : n < 64 * length r). member-set-other r n _ m h d (bit-without-other (getD r (n / 64) 0) (n % 64)))
-      (λ (h : 64 * length r ≤ n). ap (λ (l : List ℕ). member l m) (without-past r n h))
-      (lt-or-ge n (64 * length r))
-
-  pub member-without : (m : ℕ) → member (without r n) m ≡ (not (eqb m n) && member r m)
-  member-without m = go (eqb m n) refl
-    where
-      go : (t : Bool) → eqb m n ≡ t → member (without r n) m ≡ (not t && member r m)
-      go true e = rw (eqb-true m n e) member-without-same
-      go false e = member-without-other m (eqb-false m n e)
 
 -- ---- membership after an operation on two rows
 
@@ -247,10 +190,6 @@ mask-lt n = pow-lt {i = n % 64} {j = 64} (omega arith)
 pub words-with : (r : List ℕ) (n : ℕ) → Words r → Words (with r n)
 unfolding with
 words-with r n h = words-set r (n / 64) _ h (or-lt 64 _ _ (h (n / 64)) (mask-lt n))
-
-pub words-without : (r : List ℕ) (n : ℕ) → Words r → Words (without r n)
-unfolding without
-words-without r n h = words-set r (n / 64) _ h (less-lt 64 _ _ (h (n / 64)) (mask-lt n))
 
 module _ (a b : List ℕ) (e : length a ≡ length b) (wa : Words a) (wb : Words b) where
   pub words-or : Words (orRow a b)

@@ -3,21 +3,16 @@
 use mathlib.Core.Path.{_≡_, refl, sym, ap, ap₂, _∙_}
 use mathlib.Core.Bool.{Bool, false, not, _&&_, _||_}
 use mathlib.Core.Logic.{⊎-elim}
-use mathlib.Core.List.{List, [], _∷_}
+use mathlib.Core.List.{List}
 use Prim.Native.Nat.{ℕ, zero, suc, _+_, _-_, _*_, _≤_, _<_}
 use native.Mathlib.Omega.{arith}
 use lib.ListN.{length, replicate, length-replicate}
 use lib.Bits.{bitOr}
 use lib.Dec.{eqb, lit<}
-use Rattle.rows.specs.Row.{Words, less, member, memberAt, with, without, withAt, withoutAt, orRow, lessRow, asDigit, word, pack}
+use Rattle.rows.specs.Row.{Words, less, member, memberAt, with, withAt, orRow, lessRow, pack}
 use Rattle.rows.proofs.Digit.{word-lt, bit-word}
 use Rattle.rows.proofs.Rows.{lt-or-ge, length-zip}
-use Rattle.rows.proofs.Members.{length-with, length-without, member-head, member-tail, member-at-zero, with-at-zero, without-at-zero, member-with, member-without, member-or, member-less, member-none, words-none, words-with, words-without, words-or, words-less, rows-ext}
-
--- It computes: bit 1 of the first word, and bit 0 of the second.
-pack-example : pack 2 (λ (n : ℕ). eqb n 1 || eqb n 64) ≡ 2 ∷ 1 ∷ []
-unfolding pack word asDigit
-pack-example = refl
+use Rattle.rows.proofs.Members.{length-with, member-head, member-tail, member-at-zero, with-at-zero, member-with, member-or, member-less, member-none, words-none, words-with, words-or, words-less, rows-ext}
 
 pub length-pack : (w : ℕ) (p : ℕ → Bool) → length (pack w p) ≡ w
 unfolding pack
@@ -55,9 +50,6 @@ pack-unique r w p e wr h =
 pub pack-ext : (w : ℕ) (p q : ℕ → Bool) → ((n : ℕ) → n < 64 * w → p n ≡ q n) → pack w p ≡ pack w q
 pack-ext w p q h = pack-unique (pack w p) w q (length-pack w p) (pack-words w p) (λ n k. member-pack w p n k ∙ h n k)
 
-pub pack-member : (r : List ℕ) → Words r → r ≡ pack (length r) (member r)
-pack-member r h = pack-unique r (length r) (member r) refl h (λ n k. refl)
-
 pub pack-none : (w : ℕ) → pack w (λ (n : ℕ). false) ≡ replicate w 0
 pack-none w = sym (pack-unique (replicate w 0) w (λ (n : ℕ). false) (length-replicate w 0) (words-none w) (λ n k. member-none w n))
 
@@ -72,15 +64,6 @@ module _ (w : ℕ) (p : ℕ → Bool) (n : ℕ) where
 
   pub pack-with-at : n < 64 * w → withAt (pack w p) 0 n ≡ pack w (λ (m : ℕ). eqb m n || p m)
   pack-with-at h = with-at-zero (pack w p) n ∙ pack-with h
-
-  pub pack-without : without (pack w p) n ≡ pack w (λ (m : ℕ). not (eqb m n) && p m)
-  pack-without =
-      pack-unique (without (pack w p) n) w (λ (m : ℕ). not (eqb m n) && p m)
-      (length-without (pack w p) n ∙ length-pack w p) (words-without (pack w p) n (pack-words w p))
-      (λ m k. member-without (pack w p) n m ∙ ap (λ (t : Bool). not (eqb m n) && t) (member-pack w p m k))
-
-  pub pack-without-at : withoutAt (pack w p) 0 n ≡ pack w (λ (m : ℕ). not (eqb m n) && p m)
-  pack-without-at = without-at-zero (pack w p) n ∙ pack-without
 
 module _ (w : ℕ) (p q : ℕ → Bool) where
   same-length : length (pack w p) ≡ length (pack w q)

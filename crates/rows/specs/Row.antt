@@ -33,10 +33,6 @@ less a b = bitXor a (bitAnd a b)
 unfoldable pub with : List ℕ → ℕ → List ℕ
 with r n = set r (n / 64) (bitOr (getD r (n / 64) 0) (2 ^ (n % 64)))
 
--- The row r with the number n taken out.
-unfoldable pub without : List ℕ → ℕ → List ℕ
-without r n = set r (n / 64) (less (getD r (n / 64) 0) (2 ^ (n % 64)))
-
 -- Is the number n in the row that starts at word base of ws, however many words that row has?
 unfoldable pub memberAt : List ℕ → ℕ → ℕ → Bool
 memberAt ws base n = bit (getD ws (base + n / 64) 0) (n % 64)
@@ -44,10 +40,6 @@ memberAt ws base n = bit (getD ws (base + n / 64) 0) (n % 64)
 -- The words ws with the number n put into the row at base.
 unfoldable pub withAt : List ℕ → ℕ → ℕ → List ℕ
 withAt ws base n = set ws (base + n / 64) (bitOr (getD ws (base + n / 64) 0) (2 ^ (n % 64)))
-
--- The words ws with the number n taken out of the row at base.
-unfoldable pub withoutAt : List ℕ → ℕ → ℕ → List ℕ
-withoutAt ws base n = set ws (base + n / 64) (less (getD ws (base + n / 64) 0) (2 ^ (n % 64)))
 
 -- The row of n words that starts at word base of ws.
 unfoldable pub row : List ℕ → ℕ → ℕ → List ℕ

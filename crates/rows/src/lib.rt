@@ -5,7 +5,7 @@ ghost use mathlib.Core.Path.{_≡_};
 ghost use mathlib.Core.Bool.{not};
 ghost use Prim.Native.Nat.{_+_, _/_, _^_, _≤_, _<_};
 ghost use lib.ListN.{length, replicate};
-ghost use Rattle.rows.specs.Row.{Apart, memberAt, withAt, withoutAt, row, put, orRow, lessRow, sameRow};
+ghost use Rattle.rows.specs.Row.{memberAt, withAt, row, put, orRow, lessRow, sameRow};
 
 // Only the word of n has to be there, so the contract asks nothing of the row's width.
 pub fn has(words: &[u64], base: usize, n: usize) -> bool
@@ -33,27 +33,6 @@ pub fn insert(words: &mut [u64], base: usize, n: usize)
     words[at] = words[at] | m;
 }
 
-// `w ^ (w & m)` clears the bits of m like `w & !m`, and its law needs no bound on the words.
-pub fn remove(words: &mut [u64], base: usize, n: usize)
-    requires { ⌜ base + n / 64 < length (now words) ⌝ }
-    ensures { λ _. ⌜ now (words .exit) ≡ withoutAt (now (words .entry)) base n ⌝ }
-{
-    let m = mask(n % 64);
-    let at = base + n / 64;
-    let w = words[at];
-    words[at] = w ^ (w & m);
-}
-
-// The row at to becomes its union with the row at from, n words each. The two rows stand apart, so that no word is read after it was written.
-pub fn union_into(words: &mut [u64], to: usize, from: usize, n: usize)
-    requires { ⌜ (to + n ≤ length (now words)) × (from + n ≤ length (now words)) × Apart to n from n ⌝ }
-    ensures { λ _. ⌜ now (words .exit) ≡ put (now (words .entry)) to (orRow (row (now (words .entry)) to n) (row (now (words .entry)) from n)) ⌝ }
-{
-    for i in 0..n {
-        words[to + i] = words[to + i] | words[from + i];
-    }
-}
-
 // The row at to becomes its union with the row at b of another slice.
 pub fn union_from(words: &mut [u64], to: usize, from: &[u64], b: usize, n: usize)
     requires { ⌜ (to + n ≤ length (now words)) × (b + n ≤ length (now from)) ⌝ }
@@ -64,7 +43,7 @@ pub fn union_from(words: &mut [u64], to: usize, from: &[u64], b: usize, n: usize
     }
 }
 
-// The row at to loses the members of the row at b of another slice.
+// The row at to loses the members of the row at b of another slice. `w ^ (w & v)` clears the bits of v like `w & !v`, and its law needs no bound on the words.
 pub fn less_from(words: &mut [u64], to: usize, from: &[u64], b: usize, n: usize)
     requires { ⌜ (to + n ≤ length (now words)) × (b + n ≤ length (now from)) ⌝ }
     ensures { λ _. ⌜ now (words .exit) ≡ put (now (words .entry)) to (lessRow (row (now (words .entry)) to n) (row (now (from .entry)) b n)) ⌝ }
@@ -72,18 +51,6 @@ pub fn less_from(words: &mut [u64], to: usize, from: &[u64], b: usize, n: usize)
     for i in 0..n {
         let w = words[to + i];
         words[to + i] = w ^ (w & from[b + i]);
-    }
-}
-
-// The row at to becomes born with what of the row at out is not in dead. One walk does both, so that the row between them needs no words.
-pub fn transfer(words: &mut [u64], to: usize, out: usize, born: &[u64], dead: &[u64], n: usize)
-    requires { ⌜ (to + n ≤ length (now words)) × (out + n ≤ length (now words)) × Apart to n out n × (n ≤ length (now born)) × (n ≤ length (now dead)) ⌝ }
-    ensures { λ _. ⌜ now (words .exit) ≡ put (now (words .entry)) to
-        (orRow (row (now (born .entry)) 0 n) (lessRow (row (now (words .entry)) out n) (row (now (dead .entry)) 0 n))) ⌝ }
-{
-    for i in 0..n {
-        let w = words[out + i];
-        words[to + i] = born[i] | (w ^ (w & dead[i]));
     }
 }
 

@@ -8,7 +8,7 @@ use Prim.Native.Nat.{ℕ, zero, suc, _≤_, _<_}
 use native.Mathlib.Omega.{arith}
 use lib.ListN.{length, getD, length-map}
 use Rattle.rows.proofs.Rows.{lt-or-ge}
-use Rattle.records.specs.Pick.{pick, pick-yes, pick-no}
+use Rattle.fields.specs.Pick.{pick, pick-yes, pick-no}
 use Rattle.slots.specs.declared.Slot.{Slot}
 use Rattle.slots.specs.Slots.{noSlot, firstOf}
 
@@ -21,15 +21,6 @@ inside-same (x ∷ ts) (suc k) t u h = inside-same ts k t u (omega arith)
 -- A list of slots is as long as the array that it is written out to.
 pub mapped-length : (X : Type 0) (f : Slot → X) (ts : List Slot) (n : ℕ) → length (map f ts) ≡ n → length ts ≡ n
 mapped-length X f ts n e = sym (length-map ts f) ∙ e
-
--- The walk looks at nothing but the values of the test at the numbers below n.
-pub first-same : (p q : ℕ → Slot → Bool) (ts us : List Slot) (n found : ℕ) → ((j : ℕ) → j < n → p j (getD ts j noSlot) ≡ q j (getD us j noSlot))
-    → firstOf p ts n found ≡ firstOf q us n found
-unfolding firstOf
-first-same p q ts us zero found same = refl
-first-same p q ts us (suc i) found same =
-    ap (λ (b : Bool). firstOf p ts i (pick b i found)) (same i (omega arith))
-    ∙ first-same p q ts us i (pick (q i (getD us i noSlot)) i found) (λ j h. same j (omega arith))
 
 -- A turn of the walk: what is left from number k down comes to what was left before the turn.
 pub first-turn : (p : ℕ → Slot → Bool) (ts : List Slot) (k found w : ℕ) → firstOf p ts (suc k) found ≡ w → firstOf p ts k (pick (p k (getD ts k noSlot)) k found) ≡ w

@@ -27,22 +27,22 @@ use Rattle.slots.proofs.Slot.Laws as T′
 
 -- The array's type, as Rattle and as the machine has it, and its machine value.
 abbrev pub AR : RattleType
-AR = Array T.the-row 256
+AR = Array T.the-row 16
 
 abbrev pub τ : Ty
-τ = tyArray (lone (T.the-row .mir)) 256
+τ = tyArray (lone (T.the-row .mir)) 16
 
 abbrev pub valOf : List Slot → Val
 valOf ts = arrayVal (map (λ t. LL.val T.the-type T′.the-laws t) ts)
 
-module _ {M : Type 1} (𝓤 : URA M) (H : Heap 𝓤) (A : Atoms 𝓤) (W : Given 𝓤 H A) (ts : List Slot) (l : ℕ) (len : length ts ≡ 256) where
+module _ {M : Type 1} (𝓤 : URA M) (H : Heap 𝓤) (A : Atoms 𝓤) (W : Given 𝓤 H A) (ts : List Slot) (l : ℕ) (len : length ts ≡ 16) where
   pub apart : ent 𝓤 (⋆ 𝓤 H A (‵ (fat fullShare τ l 0 (valOf ts)) ∷ ‵ (AR .own ts (valOf ts ∷ [])) ∷ [])) (sem 𝓤 H A (arr-parts (shares T.the-row) (length ts) .part fullShare ts l 0))
   unfolding partOf
   apart =
       qed W (‵ (fat fullShare τ l 0 (valOf ts)) ∷ ‵ (AR .own ts (valOf ts ∷ [])) ∷ []) ∵
       use1 W (‵ (cellAt fullShare (AR .mir) (valOf ts ∷ []) l 0)) (W .laws .at-raw fullShare τ l 0 (valOf ts)) $ fjoin ! $
       fpack ! (List Val) (λ vs. fsep (cellAt fullShare (AR .mir) vs l 0) (AR .own ts vs)) (valOf ts ∷ []) $
-      use1 W (‵ (arr-parts (shares T.the-row) 256 .part fullShare ts l 0)) (array-apart 𝓤 H A W T.the-row fullShare tt 256 ts l 0) $
+      use1 W (‵ (arr-parts (shares T.the-row) 16 .part fullShare ts l 0)) (array-apart 𝓤 H A W T.the-row fullShare tt 16 ts l 0) $
       rewrite ! 0 (λ (n : ℕ). ‵ (arr-parts (shares T.the-row) n .part fullShare ts l 0)) (sym len) refl $ done !
 
   pub whole-again : ent 𝓤 (sem 𝓤 H A (arr-parts (shares T.the-row) (length ts) .part fullShare ts l 0)) (⋆ 𝓤 H A (‵ (fat fullShare τ l 0 (valOf ts)) ∷ ‵ (AR .own ts (valOf ts ∷ [])) ∷ []))
@@ -50,8 +50,8 @@ module _ {M : Type 1} (𝓤 : URA M) (H : Heap 𝓤) (A : Atoms 𝓤) (W : Given
   whole-again =
       qed W (‵ (arr-parts (shares T.the-row) (length ts) .part fullShare ts l 0) ∷ []) ∵
       rewrite ! 0 (λ (n : ℕ). ‵ (arr-parts (shares T.the-row) n .part fullShare ts l 0)) len refl $
-      use1 W (‵ (partAt AR fullShare ts l 0)) (array-whole 𝓤 H A W T.the-row fullShare 256 ts l 0) $
+      use1 W (‵ (partAt AR fullShare ts l 0)) (array-whole 𝓤 H A W T.the-row fullShare 16 ts l 0) $
       fpick ! (λ vs. fsplit ! $ move ! (1 ∷ []) $ peeks ! AR (Is AR) (shows 𝓤 H A AR) ts vs (λ p.
-      rewrite ! 1 (λ (us : List Val). ‵ (cellAt fullShare (AR .mir) us l 0)) (array-tells T.the-row (LL.vals T.the-type T′.the-laws) (LL.tells T.the-type T′.the-laws) 256 ts vs p) refl $
-      rewrite ! 0 (λ (us : List Val). ‵ (AR .own ts us)) (array-tells T.the-row (LL.vals T.the-type T′.the-laws) (LL.tells T.the-type T′.the-laws) 256 ts vs p) refl $
+      rewrite ! 1 (λ (us : List Val). ‵ (cellAt fullShare (AR .mir) us l 0)) (array-tells T.the-row (LL.vals T.the-type T′.the-laws) (LL.tells T.the-type T′.the-laws) 16 ts vs p) refl $
+      rewrite ! 0 (λ (us : List Val). ‵ (AR .own ts us)) (array-tells T.the-row (LL.vals T.the-type T′.the-laws) (LL.tells T.the-type T′.the-laws) 16 ts vs p) refl $
       move ! (1 ∷ []) $ use1 W (‵ (fat fullShare τ l 0 (valOf ts))) (W .laws .raw-at fullShare τ l 0 (valOf ts)) $ done !))

@@ -10,14 +10,14 @@ use lib.Dec.{eqb, leb}
 use lib.ListN.{length, drop, length-drop}
 use borrow.Author.Tests.{le-leb, leb-true, eq-eqb, ne-eqb}
 use Rattle.rows.proofs.Rows.{lt-or-ge}
-use Rattle.records.specs.Pick.{pick, pick-yes, pick-no, _and_}
-use Rattle.records.specs.Edition.{one}
-use Rattle.records.specs.Record.{Storage, Rec, header, storage, function, abi, block, instruction, operand, terminator, target, end, u8At, u16At, storageIn, headerAt, instructionAt, terminatorAt, lengthOf, recordAt, whole, read}
+use Rattle.fields.specs.Pick.{pick, pick-yes, pick-no, _and_}
+use Rattle.fields.specs.Edition.{one}
+use Rattle.fields.specs.Record.{Storage, Rec, header, storage, function, abi, block, instruction, operand, terminator, target, end, u8At, u16At, storageIn, headerAt, instructionAt, terminatorAt, lengthOf, recordAt, whole, read}
 use Rattle.records.specs.Step.{State, start, atStart, inStorages, atEnd}
 use Rattle.records.specs.Check.{units, check}
 use Rattle.records.specs.Program.{put, program}
-use Rattle.records.proofs.Front.{Whole, read-whole}
-use Rattle.records.proofs.ByKind.{length-one, length-none, kind-header, kind-storage, kind-function, kind-abi, kind-block, kind-instruction, kind-operand, kind-terminator, kind-target, kind-end}
+use Rattle.fields.proofs.Front.{Whole, read-whole}
+use Rattle.fields.proofs.ByKind.{length-one, length-none, kind-header, kind-storage, kind-function, kind-abi, kind-block, kind-instruction, kind-operand, kind-terminator, kind-target, kind-end}
 use Rattle.records.proofs.Scan.{Walk, done, more, walk}
 use Rattle.records.proofs.Took.{stepped}
 use Rattle.records.proofs.Contents.{rest, rest-nil, rest-whole}

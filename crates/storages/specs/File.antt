@@ -4,8 +4,8 @@ use mathlib.Core.List.{List, [], _∷_}
 use Prim.Native.Nat.{ℕ, zero, suc}
 use lib.Dec.{leb, eqb}
 use lib.ListN.{length, drop}
-use Rattle.records.specs.Pick.{pick, _and_}
-use Rattle.records.specs.Record.{Storage, u8At, storageIn}
+use Rattle.fields.specs.Pick.{pick, _and_}
+use Rattle.fields.specs.Record.{Storage, u8At, storageIn}
 
 -- A storage record stands at the front of a tail.
 unfoldable pub opensStorage : List ℕ → Bool

@@ -2,7 +2,7 @@
 -- regions in which they lie.
 use Prim.Native.Nat.{ℕ}
 use lib.Dec.{eqb}
-use Rattle.records.specs.Pick.{pick}
+use Rattle.fields.specs.Pick.{pick}
 use Rattle.storages.specs.declared.Placement.{Placement}
 use Rattle.storages.specs.declared.Placement.the-variants.{Accumulator, CarryFlag, ApplicationRam, ApplicationBit, ShadowStack, ShadowStackBit, WorkRamBit, SpecialRegister, IndirectRegister, WorkRam, Flash, XRam}
 use Rattle.storages.specs.declared.Fixed.{Fixed}

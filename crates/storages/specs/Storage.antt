@@ -3,8 +3,8 @@ use mathlib.Core.Bool.{Bool, true, false, not}
 use Prim.Native.Nat.{ℕ}
 use lib.Dec.{leb, eqb}
 use Rattle.rows.specs.Row.{bit}
-use Rattle.records.specs.Pick.{pick, _and_, _or_}
-use Rattle.records.specs.Record as R
+use Rattle.fields.specs.Pick.{pick, _and_, _or_}
+use Rattle.fields.specs.Record as R
 use Rattle.storages.specs.declared.Placement.{Placement}
 use Rattle.storages.specs.declared.Placement.the-variants.{Accumulator, CarryFlag, ApplicationRam, ApplicationBit, ShadowStack, ShadowStackBit, WorkRamBit, SpecialRegister, IndirectRegister, WorkRam, Flash, XRam}
 use Rattle.storages.specs.declared.Fixed.{Fixed}

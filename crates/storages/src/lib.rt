@@ -3,12 +3,12 @@
 ghost use mathlib.Core.Path.{_≡_};
 ghost use Prim.Native.Nat.{_≤_, _<_};
 ghost use lib.ListN.{length};
-ghost use Rattle.records.specs.Record.{storageIn};
+ghost use Rattle.fields.specs.Record.{storageIn};
 ghost use Rattle.storages.specs.Placement.{codeOf, aOf, bOf, regionOf, fixedAt};
 ghost use Rattle.storages.specs.Storage.{stored, allows, isFree, isBit, tries, bitCode, bytesCode, kindMatches, alone};
 ghost use Rattle.storages.specs.Room.{room};
 ghost use Rattle.storages.specs.File.{opensStorage};
-use records::bytes::u16_at;
+use fields::bytes::u16_at;
 
 // Where a storage lies, as PhysicalPlacement has it. Offsets, bits and registers are carried as a record has them.
 pub enum Placement {

@@ -11,7 +11,7 @@ use lib.Dec.{T, eqb, eqb→eq, T-not}
 use lib.ListN.{length, getD}
 use borrow.Author.Tests.{eq-eqb}
 use Rattle.rows.proofs.Tests.{T-yes, T-no}
-use Rattle.records.specs.Pick.{pick}
+use Rattle.fields.specs.Pick.{pick}
 use Rattle.storages.specs.declared.Fixed.{Fixed}
 use Rattle.storages.specs.declared.Fixed.the-variants as fixed
 use Rattle.storages.specs.declared.Storage.{Storage}

@@ -13,7 +13,7 @@ use borrow.Author.Tests.{ltb-true, ltb-false, eqb-true, eqb-false, eq-eqb, ne-eq
 use Rattle.rows.specs.Row.{member, memberAt, with, withAt, sameRow}
 use Rattle.rows.proofs.Rows.{same-refl, same-false}
 use Rattle.rows.proofs.Members.{member-at-zero, with-at-zero, length-with-at, member-with-same, member-with-other, getD-none, member-none}
-use Rattle.records.specs.Pick.{pick, pick-yes, pick-no, _and_, _or_}
+use Rattle.fields.specs.Pick.{pick, pick-yes, pick-no, _and_, _or_}
 use Rattle.turns.specs.Held.{anyIn, Marked}
 
 -- ---- The smaller id first

@@ -10,7 +10,7 @@ use native.Mathlib.Decide.{ℕ-discrete}
 use lib.ListN.{length, take, drop, getD, set, replicate, length-append, length-set, length-replicate, replicate-append-replicate, List·getD-map}
 use lib.Seq.{take-suc-set, take-append-seam, drop-append-add, drop-at, drop-nil, getD-take, getD-set-same, getD-set-other, map-set-same, sets-eq}
 use Rattle.rows.specs.Row.{put}
-use Rattle.records.specs.Pick.{pick}
+use Rattle.fields.specs.Pick.{pick}
 use Rattle.records.specs.Outcome.{laid}
 use Rattle.storages.specs.declared.Placement.{Placement}
 use Rattle.storages.specs.declared.Storage.{Storage}

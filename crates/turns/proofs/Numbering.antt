@@ -10,7 +10,7 @@ use native.Mathlib.Decide.{ℕ-discrete, decLt}
 use lib.ListN.{length, set, length-set, length-append, List·getD-append}
 use lib.Seq.{getD-set-same, getD-set-other, getD-append-seam}
 use borrow.Author.Tests.{eq-eqb, ne-eqb}
-use Rattle.records.specs.Pick.{pick, _and_, _or_, All}
+use Rattle.fields.specs.Pick.{pick, _and_, _or_, All}
 use Rattle.storages.specs.declared.Placement.{Placement}
 use Rattle.storages.specs.declared.Storage.{Storage}
 use Rattle.storages.specs.Storage.{tries}

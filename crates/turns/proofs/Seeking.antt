@@ -13,7 +13,7 @@ use Rattle.rows.specs.Row.{member, memberAt, less, row, put, lessRow, sameRow}
 use Rattle.rows.proofs.Tests.{T-true, T-yes, T-false}
 use Rattle.rows.proofs.Rows.{row-whole, length-zip, put-whole, same-true}
 use Rattle.rows.proofs.Members.{member-at-zero, member-less}
-use Rattle.records.specs.Pick.{pick, pick-yes, pick-no, _and_, _or_, All}
+use Rattle.fields.specs.Pick.{pick, pick-yes, pick-no, _and_, _or_, All}
 use Rattle.storages.specs.declared.Storage.{Storage}
 use Rattle.storages.specs.Storage.{tries}
 use Rattle.units.specs.Sets.{any}
@@ -22,6 +22,7 @@ use Rattle.maps.specs.declared.Found.the-variants.{Nothing, At}
 use Rattle.slots.specs.declared.Slot.{Slot}
 use Rattle.slots.specs.Slots.{noSlot, suits, passes, firstOf}
 use Rattle.slots.proofs.Laws.{first-is, first-none}
+use Rattle.slots.proofs.Marks.{and-false}
 use Rattle.places.specs.Place.{Given, Opened, fits, partners, fitsCopied, firstSlot, orElse, slotFor, Placed, State}
 use Rattle.turns.specs.Held.{slotNumber, inSlot, Owned, Tells, anyIn, Marked, Kept, slotIn}
 use Rattle.places.proofs.Tests.{and-l}
@@ -64,11 +65,6 @@ module _ (p : ℕ → Bool) (owner k a o b : ℕ) (ids owners numbers : List ℕ
 number-is : (k : ℕ) → k < 256 → (r : Found) → eqb (slotNumber r) k ≡ inSlot k r
 number-is k l Nothing = ne-eqb 256 k (omega arith)
 number-is k l (At j) = refl
-
-and-false : (a : Bool) → (a and false) ≡ false
-unfolding pick
-and-false true = refl
-and-false false = refl
 
 -- A slot of this owner has storages of this owner only, so that a test of the owner leaves none of them out.
 module _ (p : ℕ → Bool) (ts : List Opened) (owner k : ℕ) (own : slotAt ts k .slot .owner ≡ owner) where

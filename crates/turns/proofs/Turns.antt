@@ -3,12 +3,10 @@
 use mathlib.Core.Path.{_≡_, refl, sym, ap, _∙_}
 use mathlib.Core.Bool.{Bool, true, false}
 use mathlib.Core.List.{List, [], _∷_, _++_, append-nil, append-assoc}
-use Prim.Native.Nat.{ℕ, suc, _+_, _*_, _≤_, _<_}
+use Prim.Native.Nat.{ℕ, _+_, _*_, _≤_}
 use native.Mathlib.Omega.{arith}
-use native.Mathlib.Numerals.{add-one}
-use lib.ListN.{length, getD, drop, length-append, length-set, drop-of-length-le}
-use lib.Seq.{drop-cons}
-use Rattle.records.specs.Pick.{pick, All}
+use lib.ListN.{length, length-append, length-set}
+use Rattle.fields.specs.Pick.{pick, All}
 use Rattle.records.specs.declared.Refusal.{Refusal}
 use Rattle.storages.specs.declared.Storage.{Storage}
 use Rattle.storages.specs.declared.Space.the-variants.{App, Work}
@@ -19,9 +17,9 @@ use Rattle.maps.specs.declared.Found.the-variants.{Nothing, At}
 use Rattle.slots.specs.Slots.{opened}
 use Rattle.places.specs.declared.choose.Chosen.{Chosen}
 use Rattle.places.specs.declared.choose.Chosen.the-variants.{Spot, Refused}
-use Rattle.places.specs.Place.{Given, Opened, joined, slotFor, choose, Placed, State, Outcome, done, refused, placedAt, takeRoom, joinSlot, stepBy, step, andThen, placeFrom, start, place, recordOf, recordsOf}
+use Rattle.places.specs.Place.{Given, Opened, joined, slotFor, choose, Placed, State, Outcome, done, refused, placedAt, takeRoom, joinSlot, stepBy, step, andThen, placeFrom, recordOf, recordsOf}
 use Rattle.turns.proofs.Joining.{slotAt}
-use Rattle.places.proofs.Rooms.{reserve-length, fresh-app, fresh-wrk}
+use Rattle.places.proofs.Rooms.{reserve-length}
 
 -- What holds of the state that comes out; a refusal promises nothing.
 abbrev pub After : (State → Type 0) → Outcome → Type 0
@@ -58,38 +56,10 @@ pub place-refused : (g : Given) (s : Storage) (ss : List Storage) (x : State) (r
 unfolding placeFrom
 place-refused g s ss x r e = ap (λ (o : Outcome). andThen o (λ z. placeFrom g ss z)) e
 
--- The same where a loop counts: i storages are placed, and those from i on are left.
-pub place-start : (g : Given) (a f w : ℕ) (ss : List Storage) → place g a f w ss ≡ placeFrom g (drop 0 ss) (start a f w)
-unfolding place
-place-start g a f w ss = refl
-
-module _ (g : Given) (ss : List Storage) (i : ℕ) (d : Storage) (x : State) where
-  pub turn-next : (y : State) → i < length ss → step g (getD ss i d) x ≡ done y → placeFrom g (drop i ss) x ≡ placeFrom g (drop (i + 1) ss) y
-  turn-next y l e = ap (λ (r : List Storage). placeFrom g r x) (drop-cons ss i d l) ∙ rw add-one (place-next g (getD ss i d) (drop (suc i) ss) x y e)
-
-  pub turn-refused : (r : Refusal) → i < length ss → step g (getD ss i d) x ≡ refused r → placeFrom g (drop i ss) x ≡ refused r
-  turn-refused r l e = ap (λ (t : List Storage). placeFrom g t x) (drop-cons ss i d l) ∙ place-refused g (getD ss i d) (drop (suc i) ss) x r e
-
-pub turn-last : (g : Given) (ss : List Storage) (i : ℕ) (x : State) → length ss ≤ i → placeFrom g (drop i ss) x ≡ done x
-unfolding placeFrom
-turn-last g ss i x l = ap (λ (r : List Storage). placeFrom g r x) (drop-of-length-le ss l)
-
--- Only which storages interfere and which pairs are copies counts, not how that was found.
-pub place-same : (g h : Given) → ((i j : ℕ) → g .meets i j ≡ h .meets i j) → ((i j : ℕ) → g .copies i j ≡ h .copies i j) → g .lo ≡ h .lo → g .hi ≡ h .hi
-    → (a f w : ℕ) (ss : List Storage) → place g a f w ss ≡ place h a f w ss
-place-same g h p q r t a f w ss = ap (λ (k : Given). place k a f w ss) (λ i. record { meets = λ u v. p u v i; copies = λ u v. q u v i; lo = r i; hi = t i })
-
 -- ---- How much a step adds
 
 one-more : (x : State) (y : Placed) → length (x .placed ++ (y ∷ [])) ≡ length (x .placed) + 1
 one-more x y = length-append (x .placed) (y ∷ [])
-
-pub step-more : (g : Given) (s : Storage) (x : State) → After (λ y. length (y .placed) ≡ length (x .placed) + 1) (step g s x)
-step-more g s x = step-cases (λ y. length (y .placed) ≡ length (x .placed) + 1) g s x taken (λ k. one-more x _)
-  where
-    taken : (c : Chosen) → After (λ y. length (y .placed) ≡ length (x .placed) + 1) (takeRoom s x c)
-    taken (Refused r) = tt
-    taken (Spot p) = one-more x _
 
 -- No more slots than placed storages: for 256 storages 256 slots are enough.
 abbrev pub Few : State → Type 0
@@ -113,9 +83,6 @@ step-few g s x h = step-cases Few g s x taken joins
     joins : (k : ℕ) → Few (joinSlot s x k)
     joins k = omega (arith, one-more x (record { what = s; spot = slotAt (x .slots) k .slot .placement; slot = At k }), length-set (x .slots) k (joined (s .id) (slotAt (x .slots) k)))
 
-pub start-few : (a f w : ℕ) → Few (start a f w)
-start-few a f w = omega arith
-
 -- The maps stay as long as they are.
 abbrev pub Sizes : ℕ → ℕ → State → Type 0
 Sizes a w x = (length (x .maps .app) ≡ a) × (length (x .maps .wrk) ≡ w)
@@ -126,9 +93,6 @@ step-sizes g a w s x h = step-cases (Sizes a w) g s x taken (λ k. h)
     taken : (c : Chosen) → After (Sizes a w) (takeRoom s x c)
     taken (Refused r) = tt
     taken (Spot p) = (reserve-length (x .maps) (room (s .len) p) App ∙ h .0, reserve-length (x .maps) (room (s .len) p) Work ∙ h .1)
-
-pub start-sizes : (a f w : ℕ) → f ≤ a → Sizes a w (start a f w)
-start-sizes a f w l = (fresh-app a f w l, fresh-wrk a f w)
 
 -- ---- Results
 

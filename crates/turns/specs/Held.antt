@@ -7,7 +7,7 @@ use Prim.Native.Nat.{ℕ, zero, suc, _+_, _*_, _≤_, _<_, min, max}
 use lib.Dec.{eqb}
 use lib.ListN.{length, take, getD, set}
 use Rattle.rows.specs.Row.{memberAt}
-use Rattle.records.specs.Pick.{pick, _and_, _or_, All}
+use Rattle.fields.specs.Pick.{pick, _and_, _or_, All}
 use Rattle.records.specs.Outcome.{laid}
 use Rattle.maps.specs.declared.Found.{Found}
 use Rattle.maps.specs.declared.Found.the-variants.{Nothing, At}

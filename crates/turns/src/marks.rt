@@ -5,11 +5,12 @@ ghost use Prim.Native.Nat.{ℕ, _*_, _≤_, _<_, min, max};
 ghost use lib.Dec.{ltb};
 ghost use lib.ListN.{length, getD, replicate};
 ghost use Rattle.rows.specs.Row.{memberAt, withAt, sameRow};
-ghost use Rattle.records.specs.Pick.{pick, _and_};
+ghost use Rattle.fields.specs.Pick.{pick, _and_};
+ghost use Rattle.slots.specs.Slots.{slotsIn};
 ghost use Rattle.places.specs.Place.{Given, State, slotFor};
 ghost use Rattle.turns.specs.Held.{Tells, Marked, Kept, slotIn};
-use slots::Slot;
-use slots::walk_of;
+use slots::Page;
+use slots::search;
 use storages::Storage;
 use storages::tries_slots;
 
@@ -106,9 +107,9 @@ fn any_marked(row: &[u64]) -> bool
     row[3] != 0
 }
 
-// The slot that a storage joins: of those that fit, the first with a copy partner, else the first; n where none fits or the storage shares nothing. Most storages find every slot barred, and need no walk.
+// The slot that a storage joins: of those that fit, the first with a copy partner, else the first; n where none fits or the storage shares nothing. Most storages find every slot barred, and need no search.
 pub fn slot_for(
-    list: [Slot; 256],
+    list: [Page; 16],
     n: usize,
     s: Storage,
     graph: &[u64],
@@ -120,7 +121,7 @@ pub fn slot_for(
 ) -> usize
     requires { ⌜ (n ≤ 256) × (s .id < 256) × (length (now graph) ≡ 1024) × (length (now copies) ≡ 1024) × (length (now ids) ≡ 256) × (length (now owners) ≡ 256) × (length (now numbers) ≡ 256) × (count ≤ 256)
         × ((j : ℕ) → j < count → getD (now ids) j 0 < 256) ⌝ }
-    ensures { λ r. ⌜ ((g : Given) (x : State) → Tells g (now (graph .entry)) (now (copies .entry)) → Kept x list n (now (ids .entry)) (now (owners .entry)) (now (numbers .entry)) count
+    ensures { λ r. ⌜ ((g : Given) (x : State) → Tells g (now (graph .entry)) (now (copies .entry)) → Kept x (slotsIn list) n (now (ids .entry)) (now (owners .entry)) (now (numbers .entry)) count
         → r ≡ slotIn n (slotFor g s (x .slots))) ⌝ }
 {
     if !tries_slots(s) {
@@ -147,10 +148,10 @@ pub fn slot_for(
         return n;
     }
     if any_marked(&partners) {
-        let first = walk_of(list, n, s, &seen, &partners);
+        let first = search(list, n, s, &seen, &partners);
         if first < n {
             return first;
         }
     }
-    walk_of(list, n, s, &seen, &seen)
+    search(list, n, s, &seen, &seen)
 }

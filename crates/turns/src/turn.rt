@@ -4,8 +4,9 @@ ghost use mathlib.Core.List.{List};
 ghost use Prim.Native.Nat.{_+_, _*_, _/_, _%_, _≤_, _<_};
 ghost use lib.ListN.{length, set};
 ghost use Rattle.rows.specs.Row as W;
-ghost use Rattle.records.specs.Pick.{pick};
+ghost use Rattle.fields.specs.Pick.{pick};
 ghost use Rattle.storages.specs.Storage.{tries};
+ghost use Rattle.slots.specs.Slots.{slotsIn};
 ghost use Rattle.places.specs.Legal.{FixedSmall};
 ghost use Rattle.places.specs.Place.{Given, State, recordAt, choose, takeRoom, step};
 ghost use Rattle.turns.specs.Held.{Tells, Held, listAfter, countAfter, TurnedBy};
@@ -14,6 +15,7 @@ use places::choose::Chosen;
 use places::choose::choose;
 use places::memory::take_room;
 use records::Refusal;
+use slots::Page;
 use slots::Slot;
 use slots::placement_at;
 use storages::Placement;
@@ -120,7 +122,7 @@ fn take_own(
 
 // The i-th storage, after those before it.
 pub fn place_one(
-    list: [Slot; 256],
+    list: [Page; 16],
     n: usize,
     s: Storage,
     graph: &[u64],
@@ -134,10 +136,10 @@ pub fn place_one(
     i: usize,
 ) -> Verdict
     requires { ⌜ (length (now graph) ≡ 1024) × (length (now copies) ≡ 1024) × (length (now ids) ≡ 256) × (length (now owners) ≡ 256) × (length (now numbers) ≡ 256) × (length (now out) ≡ 2048) × (length (now app) ≤ 256) × (length (now work) ≤ 512) × (i < 256) × (s .id < 256)
-        × FixedSmall (s .len) (s .fixed) × ((x : State) × Held x (now app) (now work) list n (now ids) (now owners) (now numbers) (now out) i) ⌝ }
+        × FixedSmall (s .len) (s .fixed) × ((x : State) × Held x (now app) (now work) (slotsIn list) n (now ids) (now owners) (now numbers) (now out) i) ⌝ }
     ensures { λ r. ⌜ ((g : Given) (x : State) → Tells g (now (graph .entry)) (now (copies .entry)) → g .lo ≡ 0 → g .hi ≡ length (now (app .entry))
-        → Held x (now (app .entry)) (now (work .entry)) list n (now (ids .entry)) (now (owners .entry)) (now (numbers .entry)) (now (out .entry)) i
-        → TurnedBy (step g s x) r (now (app .exit)) (now (work .exit)) (listAfter list n s r) (countAfter n r) (now (ids .exit)) (now (owners .exit)) (now (numbers .exit)) (now (out .exit)) (i + 1)) ⌝ }
+        → Held x (now (app .entry)) (now (work .entry)) (slotsIn list) n (now (ids .entry)) (now (owners .entry)) (now (numbers .entry)) (now (out .entry)) i
+        → TurnedBy (step g s x) r (now (app .exit)) (now (work .exit)) (listAfter (slotsIn list) n s r) (countAfter n r) (now (ids .exit)) (now (owners .exit)) (now (numbers .exit)) (now (out .exit)) (i + 1)) ⌝ }
 {
     let k = slot_for(list, n, s, graph, copies, ids, owners, numbers, i);
     if k < n {

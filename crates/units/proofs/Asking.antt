@@ -7,14 +7,14 @@ use mathlib.Core.List.{List, [], _++_}
 use Prim.Native.Nat.{ℕ, _+_, _≤_, _<_}
 use native.Mathlib.Omega.{arith}
 use lib.Dec.{ltb, leb, eqb}
-use lib.ListN.{length, getD, take, drop, replicate}
+use lib.ListN.{length, getD, drop, replicate}
 use borrow.Author.Tests.{le-ltb, lt-ltb, ne-eqb, le-leb, lt-leb}
 use Rattle.rows.specs.Row.{put, row, pack}
 use Rattle.rows.proofs.Rows.{row-whole}
-use Rattle.records.specs.Pick.{pick, pick-yes, pick-no, _and_, _or_, has}
-use Rattle.records.specs.Edition.{one}
-use Rattle.records.specs.Record.{u8At}
-use Rattle.records.specs.Check.{Answer, units, refusal, check, numbers}
+use Rattle.fields.specs.Pick.{pick, pick-yes, pick-no, _and_, _or_, has}
+use Rattle.fields.specs.Edition.{one}
+use Rattle.fields.specs.Record.{u8At}
+use Rattle.records.specs.Check.{Answer, units, refusal, check}
 use Rattle.records.specs.Outcome.{Outcome, laid, outcomeBy, Numbers}
 use Rattle.records.specs.Program.{Function, empty, stepOf, program}
 use Rattle.records.specs.Place.{nowhere, stepAt}
@@ -26,7 +26,7 @@ use Rattle.records.proofs.Accepted.{accepted}
 use Rattle.records.proofs.Outcomes.{cleared, laid-rest}
 use Rattle.units.specs.Uses.{reads, writes, effect}
 use Rattle.units.specs.Rows.{unitRow, storageRow}
-use Rattle.units.specs.Along.{from, functionFrom, stepFrom, IsStep, StandsAt, SoundBoth, Locates}
+use Rattle.units.specs.Along.{from, functionFrom, stepFrom, IsStep, StandsAt, Sane, Ready, SoundBoth, Locates}
 use Rattle.units.specs.Ask.{Asked, Query, askedOf, asked, Asks, Told, yesNo, toldOf, told, Tells}
 use Rattle.units.specs.Seek.{Refuses, Reached, Seeks, Shown, Shows, given, storagesBelow}
 use Rattle.units.specs.declared.Answered.{Answered}
@@ -38,6 +38,7 @@ use Rattle.units.specs.declared.locate.Located.{Located}
 use Rattle.units.specs.declared.locate.Located.the-variants.{At, Nowhere}
 use Rattle.units.specs.declared.ask.Sought.{Sought}
 use Rattle.units.specs.declared.ask.Sought.the-variants as sought
+use Rattle.units.proofs.Indexing.{tabled-index}
 use Rattle.units.proofs.Storages.{storages-are, reads-within, writes-within}
 
 yes-or : (b : Bool) → (true or b) ≡ true
@@ -129,55 +130,62 @@ effect-here f t at e p q = rw p at q
 -- The search for the step -----------------------------------------------------------------------------------------------------------------
 
 module _ (f : List ℕ) (place : ℕ) where
-  pub record Accepted (words found : List ℕ) : Type 0 where
+  pub record Accepted (words found table : List ℕ) : Type 0 where
     pub us : List ℕ
-    pub accepts : check one f ≡ units us
     pub words-are : words ≡ laid 512 us []
-    pub found-are : take (length (numbers one f)) found ≡ numbers one f
+    pub ready : Ready f us found table
+    pub sane : Sane table
     pub short : length f ≤ 16384
 
-  module _ (r : Checked) (words found : List ℕ) (h : Numbers f r words found) where
-    pub numbered-units : (n : ℕ) → r ≡ checked.Units n → Accepted words found
-    numbered-units n e = go (check one f) refl (h .0)
+  module _ (r : Checked) (words found table : List ℕ) (h : Numbers f r words found table) where
+    pub numbered-units : ((i : ℕ) → getD f i 0 < 256) → (n : ℕ) → r ≡ checked.Units n → Accepted words found table
+    numbered-units bytes n e = go (check one f) refl (h .0)
       where
-        go : (a : Answer) → check one f ≡ a → record { answer = r; words = words } ≡ outcomeBy one [] a → Accepted words found
+        go : (a : Answer) → check one f ≡ a → record { answer = r; words = words } ≡ outcomeBy one [] a → Accepted words found table
         go (units us) q p =
-            record { us = us; accepts = q; words-are = ap (λ (o : Outcome). o .words) p; found-are = h .1 us q; short = accepted one f us q .2 }
+            let t = tabled-index f us q bytes table (h .1 us q .1) in
+            record {
+              us = us;
+              words-are = ap (λ (o : Outcome). o .words) p;
+              ready = record { accepted = q; found-are = h .1 us q .0; index = t .1 };
+              sane = t .0;
+              short = accepted one f us q .2;
+            }
         go (refusal x) q p = let i = ap (λ (o : Outcome). o .answer) p in let z : _≡_ {A = ℕ} 0 1 = cc in absurd (omega arith)
 
-    pub seeks-refused : (x : Refusal) → r ≡ checked.Refused x → Seeks f place (sought.Refused x) words found
+    pub seeks-refused : (x : Refusal) → r ≡ checked.Refused x → Seeks f place (sought.Refused x) words found table
     seeks-refused x e = go (check one f) refl (h .0)
       where
-        go : (a : Answer) → check one f ≡ a → record { answer = r; words = words } ≡ outcomeBy one [] a → Seeks f place (sought.Refused x) words found
+        go : (a : Answer) → check one f ≡ a → record { answer = r; words = words } ≡ outcomeBy one [] a → Seeks f place (sought.Refused x) words found table
         go (units us) q p = let i = ap (λ (o : Outcome). o .answer) p in let z : _≡_ {A = ℕ} 0 1 = cc in absurd (omega arith)
         go (refusal y) q p =
             let i : r ≡ checked.Refused y = ap (λ (o : Outcome). o .answer) p in
             let k : y ≡ x = cc in
             (inl (rw (← k) q), ap (λ (o : Outcome). o .words) p)
 
-    module _ (n : ℕ) (e : r ≡ checked.Units n) (l : Located) (s : SoundBoth f l) (k : (us : List ℕ) → check one f ≡ units us → Locates f place l) where
-      pub seeks-here : (own here : Cursor) → l ≡ At own here → Seeks f place (sought.Here own here) words found
+    module _ (bytes : (i : ℕ) → getD f i 0 < 256) (n : ℕ) (e : r ≡ checked.Units n) (l : Located) (s : SoundBoth f l) (k : (us : List ℕ) → check one f ≡ units us → Locates f place l) where
+      pub seeks-here : (own here : Cursor) → l ≡ At own here → Seeks f place (sought.Here own here) words found table
       seeks-here own here q =
-          let a = numbered-units n e in
+          let a = numbered-units bytes n e in
           record {
             us = a .us;
-            accepted = a .accepts;
             words-are = a .words-are;
-            found-are = a .found-are;
+            ready = a .ready;
+            sane = a .sane;
             short = a .short;
             sound = rw q at s;
-            located = rw q at (k (a .us) (a .accepts));
+            located = rw q at (k (a .us) (a .ready .accepted));
           }
 
-      pub seeks-absent : (words′ : List ℕ) (m : ℕ) → l ≡ Nowhere → words′ ≡ replicate m 0 → m ≡ 512 → Seeks f place (sought.Refused (Absent place)) words′ found
+      pub seeks-absent : (words′ : List ℕ) (m : ℕ) → l ≡ Nowhere → words′ ≡ replicate m 0 → m ≡ 512 → Seeks f place (sought.Refused (Absent place)) words′ found table
       seeks-absent words′ m q c d =
-          let a = numbered-units n e in
-          let away : stepAt one f place ≡ nowhere = rw q at (k (a .us) (a .accepts)) in
-          (inr (record { us = a .us; accepted = a .accepts; away = away; says = refl }), c ∙ cleared m d)
+          let a = numbered-units bytes n e in
+          let away : stepAt one f place ≡ nowhere = rw q at (k (a .us) (a .ready .accepted)) in
+          (inr (record { us = a .us; accepted = a .ready .accepted; away = away; says = refl }), c ∙ cleared m d)
 
   -- what was sought, where it was found
-  module _ (r : Sought) (words found : List ℕ) (h : Seeks f place r words found) where
-    pub reached : (own here : Cursor) → r ≡ sought.Here own here → Reached f place own here words found
+  module _ (r : Sought) (words found table : List ℕ) (h : Seeks f place r words found table) where
+    pub reached : (own here : Cursor) → r ≡ sought.Here own here → Reached f place own here words found table
     reached own here e = rw e at h
 
     pub sought-refused : (x : Refusal) → r ≡ sought.Refused x → Refuses f place x × (words ≡ laid 512 [] [])
@@ -185,19 +193,19 @@ module _ (f : List ℕ) (place : ℕ) where
 
   -- The rows of the step ---------------------------------------------------------------------------------------------------------------------
 
-  module _ (own here : Cursor) (words found : List ℕ) (h : Reached f place own here words found) (reads′ writes′ : List ℕ) where
-    pub shows-done : ((us : List ℕ) (fn : Function) → check one f ≡ units us → take (length (numbers one f)) found ≡ numbers one f → StandsAt f own
+  module _ (own here next : Cursor) (words found table : List ℕ) (h : Reached f place own here words found table) (reads′ writes′ : List ℕ) where
+    pub shows-done : ((us : List ℕ) (fn : Function) → Ready f us found table → StandsAt f own
         → fn .abis ≡ from f (own .at) .abis → StandsAt f here → IsStep f (here .at)
-        → (reads′ ≡ unitRow one us (reads one (program one f) fn (stepFrom f (here .at)))) × (writes′ ≡ unitRow one us (writes one (program one f) (stepFrom f (here .at)))))
+        → (reads′ ≡ unitRow one us (reads one (program one f) fn (stepFrom f (here .at)))) × (writes′ ≡ unitRow one us (writes one (program one f) (stepFrom f (here .at)))) × StandsAt f next)
         → Shows f place Done words reads′ writes′
     shows-done k =
         let l = h .located in
-        let both = k (h .us) (functionFrom f (l .0) (own .at)) (h .accepted) (h .found-are) (l .2) refl (l .3) (rw (l .4) (l .5)) in
+        let both = k (h .us) (functionFrom f (l .0) (own .at)) (h .ready) (l .2) refl (l .3) (rw (l .4) (l .5)) in
         record {
           us = h .us;
           fn = functionFrom f (l .0) (own .at);
           st = stepFrom f place;
-          accepted = h .accepted;
+          accepted = h .ready .accepted;
           there = l .1;
           words-are = h .words-are;
           reads-are = rw (l .4) at (both .0);
@@ -258,7 +266,7 @@ module _ (f : List ℕ) (place : ℕ) where
     unfolding told
     tells-short l = sym (pick-yes _ _ _ (lt-ltb (length before) 512 l))
 
-    module _ (a : 512 ≤ length before) (words found : List ℕ) where
+    module _ (a : 512 ≤ length before) (words found table : List ℕ) where
       told-long : told one f place before ≡ toldOf one f place before (check one f)
       unfolding told
       told-long = pick-no _ _ _ (le-ltb (length before) 512 a)
@@ -267,12 +275,12 @@ module _ (f : List ℕ) (place : ℕ) where
       tells-refused x (inl e) h = rw (told-long, e, h, laid-rest 512 [] before)
       tells-refused x (inr e) h = rw (told-long, e .accepted, e .away, e .says, h, laid-rest 512 [] before)
 
-      pub tells-here : (own here : Cursor) (e : Effect) (t : List ℕ) → Reached f place own here words found → t ≡ drop (here .at) f → e ≡ yesNo (effect (stepFrom t 0))
+      pub tells-here : (own here : Cursor) (e : Effect) (t : List ℕ) → Reached f place own here words found table → t ≡ drop (here .at) f → e ≡ yesNo (effect (stepFrom t 0))
           → Tells f place before e (words ++ drop 512 before)
       tells-here own here e t h p q =
           let l = h .located in
           let k : e ≡ yesNo (effect (stepFrom f place)) = rw (l .4) at (effect-here f t (here .at) e p q) in
-          rw (told-long, h .accepted, l .1, k, h .words-are, laid-rest 512 (h .us) before)
+          rw (told-long, h .ready .accepted, l .1, k, h .words-are, laid-rest 512 (h .us) before)
 
   -- Any two outcomes that the contract of a query permits coincide.
   pub asks-decide : (q : Query) (n : ℕ) (before row₀ : List ℕ) (r r′ : Answered) (units₁ units₂ row₁ row₂ : List ℕ) → Asks q n f place before row₀ r units₁ row₁ → Asks q n f place before row₀ r′ units₂ row₂

@@ -13,14 +13,14 @@ use borrow.Author.Tests.{ltb-true, ltb-false, leb-true, eqb-true, eqb-false, eq-
 use Rattle.rows.specs.Row.{withAt, pack}
 use Rattle.rows.proofs.Pack.{pack-ext, pack-none, pack-with-at}
 use Rattle.rows.proofs.Members.{length-with-at}
-use Rattle.records.specs.Pick.{pick, pick-no, _and_, _or_, has, All}
-use Rattle.records.specs.Edition.{one}
-use Rattle.records.specs.Record.{Abi, Operand, Rec, header, storage, function, abi, block, instruction, operand, terminator, target, end, Read, whole, fault, read, recordAt, u8At, lengthOf, wordOf, headerAt, abiIn, operandIn, instructionAt, terminatorAt}
+use Rattle.fields.specs.Pick.{pick, pick-no, _and_, _or_, has, All}
+use Rattle.fields.specs.Edition.{one}
+use Rattle.fields.specs.Record.{Abi, Operand, Rec, header, storage, function, abi, block, instruction, operand, terminator, target, end, Read, whole, fault, read, recordAt, u8At, lengthOf, wordOf, headerAt, abiIn, operandIn, instructionAt, terminatorAt}
 use Rattle.records.specs.Units.{numberIn, noUnit}
 use Rattle.records.specs.Check.{units, check, byPiece, piecesBy, pieces, recordsIn, records, numbers}
 use Rattle.records.specs.Program.{Rest, empty, putStep, put, gather}
-use Rattle.records.proofs.Front.{read-whole, whole-read, and-both}
-use Rattle.records.proofs.ByKind.{length-one, length-none, kind-header, kind-storage, kind-function, kind-abi, kind-block, kind-instruction, kind-operand, kind-terminator, kind-target, kind-end}
+use Rattle.fields.proofs.Front.{read-whole, whole-read, and-both}
+use Rattle.fields.proofs.ByKind.{length-one, length-none, kind-header, kind-storage, kind-function, kind-abi, kind-block, kind-instruction, kind-operand, kind-terminator, kind-target, kind-end}
 use Rattle.records.proofs.Scan.{tail-some}
 use Rattle.records.proofs.Contents.{OperandIn, AbiIn, rest, rest-whole}
 use Rattle.records.proofs.Numbers.{number-low, number-at}
@@ -29,7 +29,8 @@ use Rattle.records.proofs.Range.{Distinct}
 use Rattle.units.specs.Sets.{select}
 use Rattle.units.specs.Uses.{unitsIn, unitsOf}
 use Rattle.units.specs.Rows.{listed, unitRow}
-use Rattle.units.specs.Along.{from, numbersIn, Stands, IsStep, brought}
+use Rattle.records.specs.Index.{brought}
+use Rattle.units.specs.Along.{from, numbersIn, Stands, IsStep}
 use Rattle.units.specs.Marks.{jotted, marks, rolesIn, fieldsIn, opensSeven}
 use Rattle.units.proofs.Standing.{aligned, stands-inside, units-once, units-most, stands-on}
 
@@ -64,7 +65,7 @@ kind-of t l = go (u8At t 0) refl l
     go (suc (suc (suc (suc (suc (suc (suc (suc (suc zero))))))))) e l = ap kindOf (kind-end t e)
     go (suc (suc (suc (suc (suc (suc (suc (suc (suc (suc k)))))))))) e l = absurd (omega (arith, length-none (suc (suc (suc (suc (suc (suc (suc (suc (suc (suc k)))))))))) (omega arith)))
 
--- a record of another kind has no operands, no ABI records, and leaves the functions
+-- a record of another kind has no operands, and no ABI records
 module _ (r : Rest) where
   no-operands : (x : Rec) → (kindOf x ≡ 6 → ⊥) → put x r .operands ≡ []
   unfolding put putStep
@@ -91,19 +92,6 @@ module _ (r : Rest) where
   no-abis (terminator op sub fn) n = refl
   no-abis (target id) n = refl
   no-abis end n = refl
-
-  pub same-functions : (x : Rec) → (kindOf x ≡ 2 → ⊥) → (kindOf x ≡ 9 → ⊥) → put x r .functions ≡ r .functions
-  unfolding put putStep
-  same-functions (header a f w) n e = refl
-  same-functions (storage x) n e = refl
-  same-functions (function m) n e = absurd (n refl)
-  same-functions (abi x) n e = refl
-  same-functions (block id) n e = refl
-  same-functions (instruction op sub fn) n e = refl
-  same-functions (operand x) n e = refl
-  same-functions (terminator op sub fn) n e = refl
-  same-functions (target id) n e = refl
-  same-functions end n e = absurd (e refl)
 
 -- where no record is whole, nothing is gathered
 pub records-fault : (t : List ℕ) → read one t ≡ fault → records one t ≡ []
@@ -186,10 +174,6 @@ roles-far f at l = roles-none (drop at f) (pick-no _ _ _ (lt-leb 7 (length (drop
 -- A place in a list of bytes -------------------------------------------------------------------------------------------------------------------
 
 module _ (f : List ℕ) (at : ℕ) where
-  pub first-byte : u8At (drop at f) 0 ≡ getD f at 0
-  unfolding u8At
-  first-byte = getD-drop at f 0 0 ∙ ap (λ (i : ℕ). getD f i 0) (let e : at + 0 ≡ at = omega arith in e)
-
   pub byte-at : (i : ℕ) → u8At (drop at f) i ≡ getD f (at + i) 0
   unfolding u8At
   byte-at i = getD-drop at f i 0

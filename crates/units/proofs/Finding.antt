@@ -10,22 +10,23 @@ use lib.Dec.{eqb}
 use lib.ListN.{length, getD, take, drop, length-drop, drop-of-length-le}
 use lib.Seq.{getD-drop, drop-drop, length-take-le}
 use borrow.Author.Tests.{eqb-true, eq-eqb, ne-eqb}
-use Rattle.records.specs.Pick.{pick, pick-yes, pick-no, _or_}
-use Rattle.records.specs.Edition.{Edition, one}
-use Rattle.records.specs.Record.{Rec, header, storage, function, abi, block, instruction, operand, terminator, target, end, whole, fault, read, recordAt, u8At, lengthOf, headerAt, instructionAt, terminatorAt}
+use Rattle.fields.specs.Pick.{pick, pick-yes, pick-no, _or_}
+use Rattle.fields.specs.Edition.{Edition, one}
+use Rattle.fields.specs.Record.{Rec, header, storage, function, abi, block, instruction, operand, terminator, target, end, whole, fault, read, recordAt, u8At, lengthOf, headerAt, instructionAt, terminatorAt}
 use Rattle.records.specs.Step.{State, start, atStart, atEnd}
 use Rattle.records.specs.Check.{units, check, atTail, piecesBy, pieces, records}
 use Rattle.records.specs.Program.{Function, Rest, putStep, put, stepOf, functionOf}
 use Rattle.records.specs.Place.{step, nowhere, noFunction, within, startsWith, findIn, stepAt}
-use Rattle.records.proofs.Front.{read-whole, read-take, or-cases}
-use Rattle.records.proofs.ByKind.{length-one, length-none, kind-header, kind-storage, kind-function, kind-abi, kind-block, kind-instruction, kind-operand, kind-terminator, kind-target, kind-end}
+use Rattle.fields.proofs.Front.{read-whole, read-take, or-cases}
+use Rattle.fields.proofs.ByKind.{length-one, length-none, kind-header, kind-storage, kind-function, kind-abi, kind-block, kind-instruction, kind-operand, kind-terminator, kind-target, kind-end}
 use Rattle.records.proofs.Scan.{Walk, done, more, walk, pieces-nil, pieces-whole}
 use Rattle.records.proofs.Took.{stepped}
 use Rattle.records.proofs.Contents.{rest, rest-whole}
 use Rattle.records.proofs.Stages.{Calm, start-calm, Passed, passed}
 use Rattle.records.proofs.Reading.{no-kind, no-body, whole-kind}
 use Rattle.records.proofs.Accepted.{read-out}
-use Rattle.units.specs.Along.{from, Stands, StandsAt, functionFrom, stepFrom, IsStep, brought, broughtBy, Locates}
+use Rattle.records.specs.Index.{brought}
+use Rattle.units.specs.Along.{from, Stands, StandsAt, functionFrom, stepFrom, IsStep, broughtBy, Locates}
 use Rattle.units.specs.declared.cursor.Cursor.{Cursor}
 use Rattle.units.specs.declared.locate.Located.the-variants.{At}
 use Rattle.units.proofs.Standing.{brought-kind, stands-start, stands-on}

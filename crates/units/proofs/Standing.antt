@@ -10,22 +10,24 @@ use native.Mathlib.Nat.{zero-add}
 use lib.Dec.{eqb}
 use lib.ListN.{length, take, drop, length-append}
 use lib.Seq.{take-append-seam, drop-append-seam, drop-at, take-nil, length-take-le}
-use Rattle.records.specs.Pick.{pick, has, All}
-use Rattle.records.specs.Edition.{Edition, one}
-use Rattle.records.specs.Record.{Operand, Rec, header, storage, function, abi, block, instruction, operand, terminator, target, end, whole, read, recordAt, u8At, lengthOf, wordOf, headerAt, instructionAt, terminatorAt}
+use Rattle.fields.specs.Pick.{pick, has, All}
+use Rattle.fields.specs.Edition.{Edition, one}
+use Rattle.fields.specs.Record.{Operand, Rec, header, storage, function, abi, block, instruction, operand, terminator, target, end, whole, read, recordAt, u8At, lengthOf, wordOf, headerAt, instructionAt, terminatorAt}
 use Rattle.records.specs.Units.{noted, noUnit}
 use Rattle.records.specs.Step.{State, start, next, withHeader, withStorage, withFunction, withBlock, withOpened, withNumber, withUnit, unitStep, operandStep, admit, take as takeStep, step}
 use Rattle.records.specs.Program.{Rest, gather}
 use Rattle.records.specs.Check.{units, check, pieces, recordsIn, records, numbers}
-use Rattle.records.proofs.Front.{read-whole, read-append, read-take}
-use Rattle.records.proofs.ByKind.{length-one, length-none, kind-header, kind-storage, kind-function, kind-abi, kind-block, kind-instruction, kind-operand, kind-terminator, kind-target, kind-end}
+use Rattle.fields.proofs.Front.{read-whole, read-append, read-take}
+use Rattle.fields.proofs.ByKind.{length-none, kind-header, kind-storage, kind-function, kind-abi, kind-block, kind-instruction, kind-operand, kind-terminator, kind-target, kind-end}
 use Rattle.records.proofs.Scan.{joined, IsPiece, Cut, Walk, done, more, walk, pieces-nil, pieces-whole, records-nil, records-whole, piece-place, joined-append}
 use Rattle.records.proofs.Took.{Named, stepped, unnamed, givenTo, need-next, bar-next, next-is, unit-took}
 use Rattle.records.proofs.Numbers.{number-stays}
 use Rattle.records.proofs.Range.{Distinct, InRange, kept, walk-range}
 use Rattle.records.proofs.Contents.{RestIn, gather-in}
+use Rattle.records.proofs.Reading.{brought-long}
 use Rattle.records.proofs.Accepted.{read-out, accepted}
-use Rattle.units.specs.Along.{bringing, numbersIn, bytesIn, from, Stands, brought, broughtBy}
+use Rattle.records.specs.Index.{brought}
+use Rattle.units.specs.Along.{bringing, numbersIn, bytesIn, from, Stands, broughtBy}
 
 -- Pieces and records ---------------------------------------------------------------------------------------------------------------------------
 
@@ -105,20 +107,6 @@ all-after P (x ∷ xs) ys h = all-after P xs ys (h .1)
 
 -- A record that brings a number has seven bytes ----------------------------------------------------------------------------------------------
 
-pub brought-long : (t : List ℕ) (k : ℕ) → u8At t 0 ≡ k → 0 < lengthOf one k → 7 * brought (recordAt one t) ≤ lengthOf one k
-unfolding headerAt instructionAt terminatorAt
-brought-long t zero e l = rw (length-one 0, kind-header t e) (omega arith)
-brought-long t (suc zero) e l = rw (length-one 1, kind-storage t e) (omega arith)
-brought-long t (suc (suc zero)) e l = rw (length-one 2, kind-function t e) (omega arith)
-brought-long t (suc (suc (suc zero))) e l = rw (length-one 3, kind-abi t e) (omega arith)
-brought-long t (suc (suc (suc (suc zero)))) e l = rw (length-one 4, kind-block t e) (omega arith)
-brought-long t (suc (suc (suc (suc (suc zero))))) e l = rw (length-one 5, kind-instruction t e) (omega arith)
-brought-long t (suc (suc (suc (suc (suc (suc zero)))))) e l = rw (length-one 6, kind-operand t e) (omega arith)
-brought-long t (suc (suc (suc (suc (suc (suc (suc zero))))))) e l = rw (length-one 7, kind-terminator t e) (omega arith)
-brought-long t (suc (suc (suc (suc (suc (suc (suc (suc zero)))))))) e l = rw (length-one 8, kind-target t e) (omega arith)
-brought-long t (suc (suc (suc (suc (suc (suc (suc (suc (suc zero))))))))) e l = rw (length-one 9, kind-end t e) (omega arith)
-brought-long t (suc (suc (suc (suc (suc (suc (suc (suc (suc (suc k)))))))))) e l = absurd (omega (arith, length-none (suc (suc (suc (suc (suc (suc (suc (suc (suc (suc k)))))))))) (omega arith)))
-
 -- the kind byte says how many numbers a record brings
 pub brought-kind : (t : List ℕ) → 0 < lengthOf one (u8At t 0) → brought (recordAt one t) ≡ broughtBy (u8At t 0)
 unfolding headerAt instructionAt terminatorAt pick
@@ -142,7 +130,7 @@ unfolding numbersIn recordsIn bytesIn
 pieces-long [] h = omega arith
 pieces-long (p ∷ ps) h =
     let w = read-whole one p (length p) (h .0 .taken) (h .0 .reads) in
-    omega (arith, w .long, brought-long p (u8At p 0) refl (omega (arith, w .some, w .long)), pieces-long ps (h .1), bringing-count one [] (recordAt one p) (numbersIn one [] (recordsIn one ps)))
+    omega (arith, w .long, brought-long p .long, pieces-long ps (h .1), bringing-count one [] (recordAt one p) (numbersIn one [] (recordsIn one ps)))
 
 -- Cursors -------------------------------------------------------------------------------------------------------------------------------------
 

@@ -15,15 +15,15 @@ use Rattle.rows.proofs.Tests.{same-test}
 use Rattle.rows.proofs.Rows.{put-whole}
 use Rattle.rows.proofs.Members.{member-at-zero}
 use Rattle.rows.proofs.Pack.{length-pack, member-pack, pack-ext, pack-none, pack-with-at}
-use Rattle.records.specs.Pick.{pick, _and_, _or_, has, All}
-use Rattle.records.specs.Edition.{one}
-use Rattle.records.specs.Record.{Abi, Operand, wordOf}
+use Rattle.fields.specs.Pick.{pick, _and_, _or_, has, All}
+use Rattle.fields.specs.Edition.{one}
+use Rattle.fields.specs.Record.{Abi, Operand, wordOf}
 use Rattle.records.specs.Units.{numberIn}
 use Rattle.records.specs.Check.{units, check}
 use Rattle.records.specs.Outcome.{laid}
 use Rattle.records.specs.Program.{Step, Block, Function, program}
 use Rattle.records.specs.Place.{step, stepAt}
-use Rattle.records.proofs.Front.{and-both, and-make, or-cases, or-is}
+use Rattle.fields.proofs.Front.{and-both, and-make, or-cases, or-is}
 use Rattle.records.proofs.Numbers.{number-low, number-at}
 use Rattle.records.proofs.Shape.{idsOf}
 use Rattle.records.proofs.Contents.{OperandIn, AbiIn, StepIn, BlockIn, FunctionIn}

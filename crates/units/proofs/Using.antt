@@ -11,21 +11,20 @@ use lib.Seq.{drop-drop}
 use borrow.Author.Tests.{eqb-true, eqb-false}
 use Rattle.rows.specs.Row.{put}
 use Rattle.rows.proofs.Pack.{pack-ext, pack-none}
-use Rattle.records.specs.Pick.{pick, _and_, has}
-use Rattle.records.specs.Edition.{one}
-use Rattle.records.specs.Fields.{Field, noField, table, branchFields, fieldsOf, endFieldsOf}
-use Rattle.records.specs.Table.{byteOf, rowWord, fieldRows, endRow, entryOf, above}
-use Rattle.records.specs.Record.{Abi, u8At}
-use Rattle.records.specs.Step.{fieldAt}
+use Rattle.fields.specs.Pick.{pick, pick-yes, pick-no, _and_, has}
+use Rattle.fields.specs.Edition.{one}
+use Rattle.fields.specs.Fields.{Field, noField, Y, r*, table, branchFields, fieldsOf, endFieldsOf, fieldAt}
+use Rattle.fields.specs.Table.{byteOf, rowWord, entryOf, above}
+use Rattle.fields.specs.Record.{Abi, u8At}
 use Rattle.records.specs.Program.{Function, program, rowBy, stepOf}
-use Rattle.records.proofs.Front.{and-both}
-use Rattle.records.proofs.TableLaws.{row-byte, end-fields-row, fields-short, end-fields-short}
+use Rattle.fields.proofs.Front.{and-both}
+use Rattle.fields.proofs.TableLaws.{row-byte, fields-short, end-fields-short}
 use Rattle.records.proofs.Pendings.{row-low}
 use Rattle.units.specs.Sets.{select}
 use Rattle.units.specs.Uses.{isResult, unitsIn, unitsOf, Lookup, lookup, abisBy, abisOf, readsField, writesField, reads, writes}
 use Rattle.units.specs.Rows.{unitRow}
 use Rattle.units.specs.Along.{from, Stands, StandsAt, stepFrom, IsStep, Sound, Ready}
-use Rattle.units.specs.Marks.{jotted, marks, Behind, rolesIn, fieldsIn, wantedBy, readIn, writtenIn, farAway, readSource, writtenSource, readRole}
+use Rattle.units.specs.Marks.{jotted, marks, Behind, rolesIn, fieldsIn, wantedBy, readIn, writtenIn, calleeIn, takesAbis, readSource, readRole, readAbis, writtenAbis}
 use Rattle.units.specs.declared.cursor.Cursor.{Cursor}
 use Rattle.units.proofs.Filling.{roles-far, fields-count, operands-on, step-on, operand-marks, abi-marks}
 
@@ -81,13 +80,19 @@ table-flagged : rowsFlagged table ≡ true
 unfolding table byteOf pick
 table-flagged = refl
 
-rows-flagged : rowsFlagged fieldRows ≡ true
-unfolding fieldRows table branchFields byteOf pick
-rows-flagged = refl
+branches-flagged : rowsFlagged branchFields ≡ true
+unfolding branchFields byteOf pick
+branches-flagged = refl
 
 step-flagged : (ends : Bool) (op sub : ℕ) → allFlagged (rowBy ends op sub) ≡ true
-unfolding fieldsOf
-step-flagged true op sub = rw (end-fields-row op sub) at (row-flagged fieldRows rows-flagged (endRow op sub))
+unfolding fieldsOf endFieldsOf byteOf pick
+step-flagged true op sub = go (eqb op 1) (eqb op 2) (eqb op 4)
+  where
+    go : (a b c : Bool) → allFlagged (pick a (getD branchFields sub []) (pick b (r* Y ∷ []) (pick c (fieldsOf 28) []))) ≡ true
+    go true b c = row-flagged branchFields branches-flagged sub
+    go false true c = refl
+    go false false true = row-flagged table table-flagged 28
+    go false false false = refl
 step-flagged false op sub = row-flagged table table-flagged op
 
 module _ (ends : Bool) (op sub i : ℕ) where
@@ -122,6 +127,11 @@ module _ (ns : List ℕ) where
   unfolding marks
   marks-far t f row k l = rw (roles-far f 65535 l)
 
+either-way : {A : Type 0} (b : Bool) (x : A) → pick b x x ≡ x
+unfolding pick
+either-way true x = refl
+either-way false x = refl
+
 pub no-units : (us : List ℕ) → replicate 8 0 ≡ unitRow one us []
 unfolding unitRow has pick
 no-units us = sym (pack-none 8) ∙ pack-ext 8 _ _ (λ n l. go (ltb n (length us)))
@@ -133,10 +143,10 @@ no-units us = sym (pack-none 8) ∙ pack-ext 8 _ _ (λ n l. go (ltb n (length us
 -- A step ------------------------------------------------------------------------------------------------------------------------------------------
 
 module _ (f us found tb : List ℕ) (ready : Ready f us found tb) (short : length f ≤ 16384) where
-  callee-marks : (t : ℕ → Bool) (n at k : ℕ) → n < 256 → at ≡ getD tb n 0 → k ≡ getD tb (256 + n) 0
-      → marks t found k (rolesIn (drop at f)) (replicate 8 0) ≡ unitRow one us (unitsOf one t (abisOf (program one f .functions) n))
+  callee-marks : (t : ℕ → Bool) (n : ℕ) → n < 256
+      → marks t found (getD tb (256 + n) 0) (rolesIn (drop (getD tb n 0) f)) (replicate 8 0) ≡ unitRow one us (unitsOf one t (abisOf (program one f .functions) n))
   unfolding abisOf unitsOf select
-  callee-marks t n at k low a b = rw (a, b) (go (eqb (getD tb n 0) 65535) refl)
+  callee-marks t n low = go (eqb (getD tb n 0) 65535) refl
     where
       go : (x : Bool) → eqb (getD tb n 0) 65535 ≡ x
           → marks t found (getD tb (256 + n) 0) (rolesIn (drop (getD tb n 0) f)) (replicate 8 0) ≡ unitRow one us (unitsOf one t (abisBy (lookup (program one f .functions) n)))
@@ -154,51 +164,44 @@ module _ (f us found tb : List ℕ) (ready : Ready f us found tb) (short : lengt
   fieldless ends op sub e xs k row = marks-none found _ (λ x. read-flag ends op sub x ∙ ap (λ (r : List Field). fieldAt r x .read) e) xs k row
 
   unwritten : (ends : Bool) (op sub : ℕ) → rowBy ends op sub ≡ [] → (xs : List ℕ) (k : ℕ) (row : List ℕ) → marks (writtenIn (rowWord (rowBy ends op sub)) ends) found k xs row ≡ row
-  unfolding pick
-  unwritten ends op sub e xs k row = marks-none found _ (λ x. written-flag ends op sub x ∙ ap (λ (r : List Field). pick ends false (fieldAt r x .written)) e ∙ never ends) xs k row
-    where
-      never : (b : Bool) → pick b false false ≡ false
-      never true = refl
-      never false = refl
+  unwritten ends op sub e xs k row = marks-none found _ (λ x. written-flag ends op sub x ∙ ap (λ (r : List Field). pick ends false (fieldAt r x .written)) e ∙ either-way ends false) xs k row
 
-  module _ (fn : Function) (own callee : Cursor) (sub n at k : ℕ) (low : n < 256) (calls : callee .at ≡ getD tb n 0) (calls-k : callee .k ≡ getD tb (256 + n) 0)
+  module _ (fn : Function) (own : Cursor) (sub n at k : ℕ) (low : n < 256)
       (stands-own : StandsAt f own) (owns : fn .abis ≡ from f (own .at) .abis) (stands : Stands f at k) where
     abbrev Reads : Bool → ℕ → Type 0
     Reads ends op =
-        marks (readIn (rowWord (rowBy ends op sub))) found k (fieldsIn (drop at f))
-        (marks (wantedBy (readRole ends op)) found (readSource ends op callee own .k) (rolesIn (drop (readSource ends op callee own .at) f)) (replicate 8 0))
+        marks (readIn (rowWord (rowBy ends op sub))) found k (fieldsIn (drop at f)) (readAbis ends op f found (calleeIn tb n) own (replicate 8 0))
         ≡ unitRow one us (reads one (program one f) fn (stepOf ends op sub n (from f at)))
 
     reads-tail-call : Reads true 3
-    unfolding reads readRole readSource wantedBy pick endFieldsOf
-    reads-tail-call = fieldless true 3 sub refl (fieldsIn (drop at f)) k _ ∙ callee-marks (wantedBy 0) n (callee .at) (callee .k) low calls calls-k
+    unfolding reads readAbis takesAbis readRole readSource wantedBy pick endFieldsOf
+    reads-tail-call = fieldless true 3 sub refl (fieldsIn (drop at f)) k _ ∙ callee-marks (wantedBy 0) n low
 
     reads-return : Reads true 5
-    unfolding reads readRole readSource wantedBy pick endFieldsOf
+    unfolding reads readAbis takesAbis readRole readSource wantedBy pick endFieldsOf
     reads-return =
         fieldless true 5 sub refl (fieldsIn (drop at f)) k _ ∙ abi-marks f us found (ready .accepted) (ready .found-are) (own .at) (own .k) stands-own (wantedBy 1)
         ∙ ap (λ (l : List Abi). unitRow one us (unitsOf one isResult l)) (sym owns)
 
     reads-call : Reads false 27
-    unfolding reads readRole readSource wantedBy pick fieldsOf table
-    reads-call = fieldless false 27 sub refl (fieldsIn (drop at f)) k _ ∙ callee-marks (wantedBy 0) n (callee .at) (callee .k) low calls calls-k
+    unfolding reads readAbis takesAbis readRole readSource wantedBy pick fieldsOf table
+    reads-call = fieldless false 27 sub refl (fieldsIn (drop at f)) k _ ∙ callee-marks (wantedBy 0) n low
 
     -- neither a call nor Return
-    reads-fields : (t : ℕ → Bool) (ends : Bool) (op : ℕ)
-        → marks (readIn (rowWord (rowBy ends op sub))) found k (fieldsIn (drop at f)) (marks t found 0 (rolesIn (drop 65535 f)) (replicate 8 0))
+    reads-fields : (ends : Bool) (op : ℕ)
+        → marks (readIn (rowWord (rowBy ends op sub))) found k (fieldsIn (drop at f)) (replicate 8 0)
         ≡ unitRow one us (unitsIn one (readsField (stepOf ends op sub n (from f at))) (from f at .operands))
-    reads-fields t ends op =
-        ap (marks (readIn (rowWord (rowBy ends op sub))) found k (fieldsIn (drop at f))) (marks-far found t f (replicate 8 0) 0 (omega arith))
-        ∙ marks-same found _ _ (read-flag ends op sub) (fieldsIn (drop at f)) k (replicate 8 0)
+    reads-fields ends op =
+        marks-same found _ _ (read-flag ends op sub) (fieldsIn (drop at f)) k (replicate 8 0)
         ∙ operand-marks f us found (ready .accepted) (ready .found-are) at k stands (readsField (stepOf ends op sub n (from f at)))
 
     reads-other-end : (op : ℕ) → eqb op 3 ≡ false → eqb op 5 ≡ false → Reads true op
-    unfolding reads readSource pick
-    reads-other-end op p q = rw (p, q) (reads-fields (wantedBy (readRole true op)) true op)
+    unfolding reads readAbis takesAbis pick
+    reads-other-end op p q = rw (p, q) (reads-fields true op)
 
     reads-other : (op : ℕ) → eqb op 27 ≡ false → Reads false op
-    unfolding reads readSource pick
-    reads-other op p = rw p (reads-fields (wantedBy (readRole false op)) false op)
+    unfolding reads readAbis takesAbis pick
+    reads-other op p = rw p (reads-fields false op)
 
     pub reads-are : (ends : Bool) (op : ℕ) → Reads ends op
     reads-are true op = go (eqb op 3) refl (eqb op 5) refl
@@ -215,28 +218,26 @@ module _ (f us found tb : List ℕ) (ready : Ready f us found tb) (short : lengt
 
     abbrev Writes : Bool → ℕ → Type 0
     Writes ends op =
-        marks (writtenIn (rowWord (rowBy ends op sub)) ends) found k (fieldsIn (drop at f))
-        (marks (wantedBy 2) found (writtenSource ends op callee .k) (rolesIn (drop (writtenSource ends op callee .at) f)) (replicate 8 0))
+        marks (writtenIn (rowWord (rowBy ends op sub)) ends) found k (fieldsIn (drop at f)) (writtenAbis ends op f found (calleeIn tb n) (replicate 8 0))
         ≡ unitRow one us (writes one (program one f) (stepOf ends op sub n (from f at)))
 
     writes-call : Writes false 27
-    unfolding writes writtenSource wantedBy pick fieldsOf table
-    writes-call = unwritten false 27 sub refl (fieldsIn (drop at f)) k _ ∙ callee-marks (wantedBy 2) n (callee .at) (callee .k) low calls calls-k
+    unfolding writes writtenAbis takesAbis wantedBy pick fieldsOf table
+    writes-call = unwritten false 27 sub refl (fieldsIn (drop at f)) k _ ∙ callee-marks (wantedBy 2) n low
 
     writes-fields : (ends : Bool) (op : ℕ)
-        → marks (writtenIn (rowWord (rowBy ends op sub)) ends) found k (fieldsIn (drop at f)) (marks (wantedBy 2) found 0 (rolesIn (drop 65535 f)) (replicate 8 0))
+        → marks (writtenIn (rowWord (rowBy ends op sub)) ends) found k (fieldsIn (drop at f)) (replicate 8 0)
         ≡ unitRow one us (unitsIn one (writesField (stepOf ends op sub n (from f at))) (from f at .operands))
     writes-fields ends op =
-        ap (marks (writtenIn (rowWord (rowBy ends op sub)) ends) found k (fieldsIn (drop at f))) (marks-far found (wantedBy 2) f (replicate 8 0) 0 (omega arith))
-        ∙ marks-same found _ _ (written-flag ends op sub) (fieldsIn (drop at f)) k (replicate 8 0)
+        marks-same found _ _ (written-flag ends op sub) (fieldsIn (drop at f)) k (replicate 8 0)
         ∙ operand-marks f us found (ready .accepted) (ready .found-are) at k stands (writesField (stepOf ends op sub n (from f at)))
 
     writes-end : (op : ℕ) → Writes true op
-    unfolding writes writtenSource pick
-    writes-end op = writes-fields true op
+    unfolding writes writtenAbis pick
+    writes-end op = rw (either-way (takesAbis true op) (replicate {A = ℕ} 8 0)) (writes-fields true op)
 
     writes-other : (op : ℕ) → eqb op 27 ≡ false → Writes false op
-    unfolding writes writtenSource pick
+    unfolding writes writtenAbis takesAbis pick
     writes-other op p = rw p (writes-fields false op)
 
     pub writes-are : (ends : Bool) (op : ℕ) → Writes ends op
@@ -251,23 +252,25 @@ module _ (f us found tb : List ℕ) (ready : Ready f us found tb) (short : lengt
 
 pub read-sound : (ends : Bool) (op : ℕ) (callee own src : Cursor) → src ≡ readSource ends op callee own → Sound callee → Sound own → Sound src
 unfolding readSource pick
-read-sound ends op callee own src e c o = rw e (go ends (eqb op 3) (eqb op 5) (eqb op 27))
+read-sound ends op callee own src e c o = rw e (go ends (eqb op 5))
   where
-    go : (x a b d : Bool) → Sound (pick x (pick a callee (pick b own farAway)) (pick d callee farAway))
-    go true true b d = c
-    go true false true d = o
-    go true false false d = omega arith
-    go false a b true = c
-    go false a b false = omega arith
+    go : (x a : Bool) → Sound (pick x (pick a own callee) callee)
+    go true true = o
+    go true false = c
+    go false a = c
 
-pub written-sound : (ends : Bool) (op : ℕ) (callee src : Cursor) → src ≡ writtenSource ends op callee → Sound callee → Sound src
-unfolding writtenSource pick
-written-sound ends op callee src e c = rw e (go ends (eqb op 27))
-  where
-    go : (x d : Bool) → Sound (pick x farAway (pick d callee farAway))
-    go true d = omega arith
-    go false true = c
-    go false false = omega arith
+-- the rows that a walk over ABI records leaves, from what each call of the code answers
+pub reads-abis : (ends : Bool) (op : ℕ) (f ns : List ℕ) (found callee own src : Cursor) (role : ℕ) (abis row r : List ℕ)
+    → takesAbis ends op ≡ true → found ≡ callee → src ≡ readSource ends op found own → role ≡ readRole ends op → abis ≡ drop (src .at) f
+    → r ≡ marks (wantedBy role) ns (src .k) (rolesIn abis) row → r ≡ readAbis ends op f ns callee own row
+unfolding readAbis
+reads-abis ends op f ns found callee own src role abis row r e a b c g d = rw (d, g, c, b, a) (sym (pick-yes _ _ _ e))
+
+pub writes-abis : (ends : Bool) (op : ℕ) (f ns : List ℕ) (found callee : Cursor) (abis row w : List ℕ)
+    → takesAbis ends op ≡ true → ends ≡ false → found ≡ callee → abis ≡ drop (found .at) f
+    → w ≡ marks (wantedBy 2) ns (found .k) (rolesIn abis) row → w ≡ writtenAbis ends op f ns callee row
+unfolding writtenAbis
+writes-abis ends op f ns found callee abis row w e x a g d = rw (d, g, a) (sym (pick-yes _ _ _ e ∙ pick-no _ _ _ x))
 
 -- a row that was cleared
 pub cleared : (row : List ℕ) → length row ≡ 8 → put row 0 (replicate 8 0) ≡ replicate 8 0
@@ -290,8 +293,7 @@ module _ (f t os : List ℕ) (at : ℕ) (tail : t ≡ drop at f) (behind : os �
   unfolding u8At
   step-is = rw tail
 
-  module _ (found tb : List ℕ) (k : ℕ) (own callee : Cursor) (short : length f ≤ 16384) (fits : at + 4 ≤ length f) (low : getD t 3 0 < 256)
-      (calls : callee .at ≡ getD tb (getD t 3 0) 0) (calls-k : callee .k ≡ getD tb (256 + getD t 3 0) 0) (fields : ℕ)
+  module _ (found tb : List ℕ) (k : ℕ) (own : Cursor) (short : length f ≤ 16384) (fits : at + 4 ≤ length f) (low : getD t 3 0 < 256) (fields : ℕ)
       (row : fields ≡ rowWord (rowBy (eqb (getD t 0 0) 7) (getD t 1 0) (getD t 2 0)))
       (us : List ℕ) (fn : Function) (ready : Ready f us found tb) (stands-own : StandsAt f own) (owns : fn .abis ≡ from f (own .at) .abis) (here : Stands f at k) (is : IsStep f at) where
     behind-step : Stands f (at + 4) k
@@ -300,18 +302,17 @@ module _ (f t os : List ℕ) (at : ℕ) (tail : t ≡ drop at f) (behind : os �
     pub behind-operands : (n : ℕ) → n ≡ length (fieldsIn os) → Stands f (at + 4 + 7 * n) (k + n)
     behind-operands n e = operands-on f us (ready .accepted) n (at + 4) k (e ∙ ap (λ (l : List ℕ). length (fieldsIn l)) operands-are) behind-step
 
-    pub reads-law : (r₀ r₁ r₂ r₃ abis : List ℕ) (src : Cursor) (role : ℕ) → length r₀ ≡ 8 → r₁ ≡ put r₀ 0 (replicate 8 0)
-        → src ≡ readSource (eqb (getD t 0 0) 7) (getD t 1 0) callee own → role ≡ readRole (eqb (getD t 0 0) 7) (getD t 1 0) → abis ≡ drop (src .at) f
-        → r₂ ≡ marks (wantedBy role) found (src .k) (rolesIn abis) r₁ → r₃ ≡ marks (readIn fields) found k (fieldsIn os) r₂
+    pub reads-law : (r₀ r₁ r₂ r₃ : List ℕ) → length r₀ ≡ 8 → r₁ ≡ put r₀ 0 (replicate 8 0)
+        → r₂ ≡ readAbis (eqb (getD t 0 0) 7) (getD t 1 0) f found (calleeIn tb (getD t 3 0)) own r₁ → r₃ ≡ marks (readIn fields) found k (fieldsIn os) r₂
         → r₃ ≡ unitRow one us (reads one (program one f) fn (stepFrom f at))
-    reads-law r₀ r₁ r₂ r₃ abis src role l a b c g d e =
-        rw (e, d, g, c, b, a, cleared r₀ l, row, step-is, operands-are)
-        (reads-are f us found tb ready short fn own callee (getD t 2 0) (getD t 3 0) (at + 4) k low calls calls-k stands-own owns behind-step (eqb (getD t 0 0) 7) (getD t 1 0))
+    reads-law r₀ r₁ r₂ r₃ l a d e =
+        rw (e, d, a, cleared r₀ l, row, step-is, operands-are)
+        (reads-are f us found tb ready short fn own (getD t 2 0) (getD t 3 0) (at + 4) k low stands-own owns behind-step (eqb (getD t 0 0) 7) (getD t 1 0))
 
-    pub writes-law : (w₀ w₁ w₂ w₃ abis : List ℕ) (src : Cursor) → length w₀ ≡ 8 → w₁ ≡ put w₀ 0 (replicate 8 0)
-        → src ≡ writtenSource (eqb (getD t 0 0) 7) (getD t 1 0) callee → abis ≡ drop (src .at) f
-        → w₂ ≡ marks (wantedBy 2) found (src .k) (rolesIn abis) w₁ → w₃ ≡ marks (writtenIn fields (eqb (getD t 0 0) 7)) found k (fieldsIn os) w₂
+    pub writes-law : (w₀ w₁ w₂ w₃ : List ℕ) → length w₀ ≡ 8 → w₁ ≡ put w₀ 0 (replicate 8 0)
+        → w₂ ≡ writtenAbis (eqb (getD t 0 0) 7) (getD t 1 0) f found (calleeIn tb (getD t 3 0)) w₁
+        → w₃ ≡ marks (writtenIn fields (eqb (getD t 0 0) 7)) found k (fieldsIn os) w₂
         → w₃ ≡ unitRow one us (writes one (program one f) (stepFrom f at))
-    writes-law w₀ w₁ w₂ w₃ abis src l a b g d e =
-        rw (e, d, g, b, a, cleared w₀ l, row, step-is, operands-are)
-        (writes-are f us found tb ready short fn own callee (getD t 2 0) (getD t 3 0) (at + 4) k low calls calls-k stands-own owns behind-step (eqb (getD t 0 0) 7) (getD t 1 0))
+    writes-law w₀ w₁ w₂ w₃ l a d e =
+        rw (e, d, a, cleared w₀ l, row, step-is, operands-are)
+        (writes-are f us found tb ready short fn own (getD t 2 0) (getD t 3 0) (at + 4) k low stands-own owns behind-step (eqb (getD t 0 0) 7) (getD t 1 0))

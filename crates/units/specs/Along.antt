@@ -6,9 +6,9 @@ use mathlib.Core.List.{List, [], _∷_, _++_}
 use Prim.Native.Nat.{ℕ, _+_, _*_, _≤_, _<_}
 use lib.Dec.{eqb}
 use lib.ListN.{length, getD, take, drop}
-use Rattle.records.specs.Pick.{pick}
-use Rattle.records.specs.Edition.{Edition, one}
-use Rattle.records.specs.Record.{Rec, header, storage, function, abi, block, instruction, operand, terminator, target, end, u8At, wordOf}
+use Rattle.fields.specs.Pick.{pick}
+use Rattle.fields.specs.Edition.{Edition, one}
+use Rattle.fields.specs.Record.{Rec, header, storage, function, abi, block, instruction, operand, terminator, target, end, u8At, wordOf}
 use Rattle.records.specs.Units.{numberIn, noUnit}
 use Rattle.records.specs.Check.{units, check, pieces, recordsIn, records, numbers}
 use Rattle.records.specs.Program.{Step, Function, Rest, stepOf, functionOf, gather, program}
@@ -69,8 +69,7 @@ stepFrom f at = stepOf (eqb (u8At (drop at f) 0) 7) (u8At (drop at f) 1) (u8At (
 abbrev pub IsStep : List ℕ → ℕ → Type 0
 IsStep f at = (u8At (drop at f) 0 ≡ 5) ⊎ (u8At (drop at f) 0 ≡ 7)
 
--- The table of functions: entry n is the place right after the record of function n, entry 256 + n how many unit numbers come before it; 65535 where
--- there is no such function.
+-- A table of functions tells of each number whether the program has such a function, where its records begin, and how many unit numbers come before.
 pub record Indexed (f table : List ℕ) : Type 0 where
   pub absent : (n : ℕ) → n < 256 → getD table n 0 ≡ 65535 → lookup (program one f .functions) n ≡ missing
   pub present : (n : ℕ) → n < 256 → (getD table n 0 ≡ 65535 → ⊥)
@@ -97,19 +96,6 @@ abbrev pub SoundBoth : List ℕ → Located → Type 0
 SoundBoth f (At own here) = Sound own × Sound here × (here .at + 4 ≤ length f)
 SoundBoth f Nowhere = Unit {0}
 
--- How many unit numbers a record brings.
-abbrev pub brought : Rec → ℕ
-brought (header a f w) = 0
-brought (storage x) = 0
-brought (function n) = 0
-brought (abi x) = 1
-brought (block id) = 0
-brought (instruction op sub fn) = 0
-brought (operand x) = 1
-brought (terminator op sub fn) = 0
-brought (target id) = 0
-brought end = 0
-
--- The same, by the kind byte.
+-- How many unit numbers a record brings, by its kind byte.
 abbrev pub broughtBy : ℕ → ℕ
 broughtBy kind = pick (eqb kind 3) 1 (pick (eqb kind 6) 1 0)

@@ -3,11 +3,11 @@ use mathlib.Core.Bool.{Bool, false}
 use mathlib.Core.List.{List, [], _∷_, map}
 use Prim.Native.Nat.{ℕ, _+_, _*_, _-_, _/_, _%_, _^_, _≤_}
 use lib.Dec.{ltb, leb, eqb}
-use lib.ListN.{length, getD, set}
+use lib.ListN.{length, getD, drop}
 use Rattle.rows.specs.Row.{withAt}
-use Rattle.records.specs.Pick.{pick, _and_}
-use Rattle.records.specs.Edition.{one}
-use Rattle.records.specs.Record.{Abi, Operand, u8At, lengthOf}
+use Rattle.fields.specs.Pick.{pick, _and_, _or_}
+use Rattle.fields.specs.Edition.{one}
+use Rattle.fields.specs.Record.{Abi, Operand, u8At}
 use Rattle.records.specs.Check.{records}
 use Rattle.records.specs.Program.{gather}
 use Rattle.units.specs.Uses.{isParameter, isResult, isOutcome}
@@ -48,24 +48,28 @@ readIn fields field = eqb (fields / 256 ^ field % 256 / 64 % 2) 1
 unfoldable pub writtenIn : ℕ → Bool → ℕ → Bool
 writtenIn fields ends field = pick ends false (eqb (fields / 256 ^ field % 256 / 32 % 2) 1)
 
--- Whose ABI records a step reads and writes: those of the callee, of its own function, or none, far behind every file.
-abbrev pub farAway : Cursor
-farAway = record { at = 65535; k = 0 }
+-- The cursor behind the record of a function, by the table of functions.
+abbrev pub calleeIn : List ℕ → ℕ → Cursor
+calleeIn table n = record { at = getD table n 0; k = getD table (256 + n) 0 }
 
+-- The steps that take ABI records: TailCall, Return, Call.
+unfoldable pub takesAbis : Bool → ℕ → Bool
+takesAbis ends op = pick ends (eqb op 3 or eqb op 5) (eqb op 27)
+
+-- Whose such a step reads, and which: Return the results of its own function, a call the callee's parameters.
 unfoldable pub readSource : Bool → ℕ → Cursor → Cursor → Cursor
-readSource ends op callee own = pick ends (pick (eqb op 3) callee (pick (eqb op 5) own farAway)) (pick (eqb op 27) callee farAway)
+readSource ends op callee own = pick ends (pick (eqb op 5) own callee) callee
 
-unfoldable pub writtenSource : Bool → ℕ → Cursor → Cursor
-writtenSource ends op callee = pick ends farAway (pick (eqb op 27) callee farAway)
-
--- Return reads results; calls read parameters.
 unfoldable pub readRole : Bool → ℕ → ℕ
 readRole ends op = pick ends (pick (eqb op 5) 1 0) 0
 
--- How long the record at the front of a tail is; 0 where none is whole, and at the end record.
-unfoldable pub onwardIn : List ℕ → ℕ
-onwardIn t = pick (leb (lengthOf one (u8At t 0)) (length t)) (pick (eqb (u8At t 0) 9) 0 (lengthOf one (u8At t 0))) 0
+-- A row with the units of the ABI records that stand at a cursor and are wanted.
+abbrev pub abiMarks : ℕ → List ℕ → List ℕ → Cursor → List ℕ → List ℕ
+abiMarks which f ns c row = marks (wantedBy which) ns (c .k) (rolesIn (drop (c .at) f)) row
 
--- The table of functions after a record of some kind: with one more where it is a function's, unless its number is there.
-unfoldable pub enteredIn : List ℕ → ℕ → ℕ → ℕ → ℕ → List ℕ
-enteredIn table kind n at k = pick (eqb kind 2) (pick (eqb (getD table n 0) 65535) (set (set table n at) (256 + n) k) table) table
+-- A row with the units of the ABI records that a step reads, and one with those that it writes: Call alone writes, what its callee leaves and clobbers.
+unfoldable pub readAbis : Bool → ℕ → List ℕ → List ℕ → Cursor → Cursor → List ℕ → List ℕ
+readAbis ends op f ns callee own row = pick (takesAbis ends op) (abiMarks (readRole ends op) f ns (readSource ends op callee own) row) row
+
+unfoldable pub writtenAbis : Bool → ℕ → List ℕ → List ℕ → Cursor → List ℕ → List ℕ
+writtenAbis ends op f ns callee row = pick (takesAbis ends op) (pick ends row (abiMarks 2 f ns callee row)) row

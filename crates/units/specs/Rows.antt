@@ -5,8 +5,8 @@ use Prim.Native.Nat.{ℕ}
 use lib.Dec.{ltb}
 use lib.ListN.{length, getD}
 use Rattle.rows.specs.Row.{pack}
-use Rattle.records.specs.Pick.{_and_, has}
-use Rattle.records.specs.Edition.{Edition}
+use Rattle.fields.specs.Pick.{_and_, has}
+use Rattle.fields.specs.Edition.{Edition}
 use Rattle.units.specs.Uses.{storagesOf}
 
 -- Number n stands for the n-th unit: it is in a set where that unit's word is.

@@ -4,11 +4,11 @@ use mathlib.Core.Logic.{_⊎_}
 use mathlib.Core.Bool.{true}
 use mathlib.Core.List.{List, [], _∷_, _++_}
 use Prim.Native.Nat.{ℕ, zero, suc, _≤_}
-use lib.ListN.{length, getD, take, drop}
+use lib.ListN.{length, getD, drop}
 use Rattle.rows.specs.Row.{member}
-use Rattle.records.specs.Pick.{pick, has}
-use Rattle.records.specs.Edition.{one}
-use Rattle.records.specs.Check.{units, refusal, check, numbers}
+use Rattle.fields.specs.Pick.{pick, has}
+use Rattle.fields.specs.Edition.{one}
+use Rattle.records.specs.Check.{units, refusal, check}
 use Rattle.records.specs.Outcome.{laid}
 use Rattle.records.specs.Program.{Step, Function, program}
 use Rattle.records.specs.Place.{step, nowhere, stepAt}
@@ -16,7 +16,7 @@ use Rattle.records.specs.declared.Refusal.{Refusal}
 use Rattle.records.specs.declared.Refusal.the-variants.{Absent}
 use Rattle.units.specs.Uses.{reads, writes, storageOf}
 use Rattle.units.specs.Rows.{unitRow}
-use Rattle.units.specs.Along.{Locates, SoundBoth}
+use Rattle.units.specs.Along.{Sane, Ready, Locates, SoundBoth}
 use Rattle.units.specs.declared.cursor.Cursor.{Cursor}
 use Rattle.units.specs.declared.locate.Located.the-variants.{At}
 use Rattle.units.specs.declared.Answered.{Answered}
@@ -34,19 +34,19 @@ pub record Absence (f : List ℕ) (place : ℕ) (x : Refusal) : Type 0 where
 abbrev pub Refuses : List ℕ → ℕ → Refusal → Type 0
 Refuses f place x = (check one f ≡ refusal x) ⊎ Absence f place x
 
--- An accepted file has a step at the place; its unit words and its unit numbers are laid down.
-pub record Reached (f : List ℕ) (place : ℕ) (own here : Cursor) (words found : List ℕ) : Type 0 where
+-- An accepted file has a step at the place; its unit words, its unit numbers and its table of functions are laid down.
+pub record Reached (f : List ℕ) (place : ℕ) (own here : Cursor) (words found table : List ℕ) : Type 0 where
   pub us : List ℕ
-  pub accepted : check one f ≡ units us
   pub words-are : words ≡ laid 512 us []
-  pub found-are : take (length (numbers one f)) found ≡ numbers one f
+  pub ready : Ready f us found table
+  pub sane : Sane table
   pub short : length f ≤ 16384
   pub sound : SoundBoth f (At own here)
   pub located : Locates f place (At own here)
 
-abbrev pub Seeks : List ℕ → ℕ → Sought → List ℕ → List ℕ → Type 0
-Seeks f place (sought.Here own here) words found = Reached f place own here words found
-Seeks f place (sought.Refused x) words found = Refuses f place x × (words ≡ laid 512 [] [])
+abbrev pub Seeks : List ℕ → ℕ → Sought → List ℕ → List ℕ → List ℕ → Type 0
+Seeks f place (sought.Here own here) words found table = Reached f place own here words found table
+Seeks f place (sought.Refused x) words found table = Refuses f place x × (words ≡ laid 512 [] [])
 
 -- The rows of the step at a place, with the unit words; or a refusal, and the words are 0.
 pub record Shown (f : List ℕ) (place : ℕ) (words reads′ writes′ : List ℕ) : Type 0 where

@@ -2,7 +2,7 @@
 use mathlib.Core.Bool.{Bool, true, false}
 use mathlib.Core.List.{List, [], _∷_, _++_}
 use Prim.Native.Nat.{ℕ}
-use Rattle.records.specs.Pick.{pick, _or_, has}
+use Rattle.fields.specs.Pick.{pick, _or_, has}
 
 -- The elements that pass a test, in order.
 unfoldable pub select : {A : Type 0} → (A → Bool) → List A → List A

@@ -4,10 +4,10 @@ use mathlib.Core.Bool.{Bool, true, false}
 use mathlib.Core.List.{List, [], _∷_, map}
 use Prim.Native.Nat.{ℕ, _/_, _%_}
 use lib.Dec.{leb, eqb}
-use Rattle.records.specs.Pick.{pick, _and_, _or_}
-use Rattle.records.specs.Edition.{Edition}
-use Rattle.records.specs.Record.{Abi, Operand, wordOf}
-use Rattle.records.specs.Step.{fieldAt}
+use Rattle.fields.specs.Pick.{pick, _and_, _or_}
+use Rattle.fields.specs.Edition.{Edition}
+use Rattle.fields.specs.Record.{Abi, Operand, wordOf}
+use Rattle.fields.specs.Fields.{fieldAt}
 use Rattle.records.specs.Program.{Step, Function, Program, rowOf}
 use Rattle.units.specs.Sets.{select}
 

@@ -1,22 +1,17 @@
 // The common work of the queries: the step at a place with its rows, and the storages of a row of units.
 ghost use mathlib.Core.Path.{_≡_};
-ghost use mathlib.Core.List.{List};
-ghost use Prim.Native.Nat.{ℕ, _+_, _/_, _%_, _≤_};
-ghost use lib.ListN.{length, take};
+ghost use Prim.Native.Nat.{_/_, _%_, _≤_};
+ghost use lib.ListN.{length};
 ghost use Rattle.rows.specs.Row.{pack};
-ghost use Rattle.records.specs.Pick.{has};
-ghost use Rattle.records.specs.Edition.{one};
-ghost use Rattle.records.specs.Check.{units, check, numbers as numbersOf};
-ghost use Rattle.records.specs.Program.{Function, empty, program, stepOf};
-ghost use Rattle.units.specs.Uses.{reads as readsOf, writes as writesOf, effect};
-ghost use Rattle.units.specs.Rows.{unitRow};
-ghost use Rattle.units.specs.Along.{from, stepFrom, IsStep, StandsAt, Sound};
+ghost use Rattle.fields.specs.Pick.{has};
+ghost use Rattle.records.specs.Program.{empty, stepOf};
+ghost use Rattle.units.specs.Uses.{effect};
+ghost use Rattle.units.specs.Along.{stepFrom};
 ghost use Rattle.units.specs.Ask.{yesNo};
 ghost use Rattle.units.specs.Seek.{Seeks, Shows, given, storagesBelow};
 use crate::Answered;
 use crate::Effect;
 use crate::cursor::Cursor;
-use crate::index::index_functions;
 use crate::locate::Located;
 use crate::locate::locate;
 use crate::uses::uses_at;
@@ -30,11 +25,17 @@ pub enum Sought {
 }
 
 // Checks the file and looks for the step. Where there is none, the unit words are cleared again.
-pub fn find_step(file: &[u8], place: usize, words: &mut [u32], numbers: &mut [u16]) -> Sought
-    requires { ⌜ (length (now words) ≡ 512) × (2341 ≤ length (now numbers)) ⌝ }
-    ensures { λ r. ⌜ Seeks (now (file .entry)) place r (now (words .exit)) (now (numbers .exit)) ⌝ }
+pub fn find_step(
+    file: &[u8],
+    place: usize,
+    words: &mut [u32],
+    numbers: &mut [u16],
+    table: &mut [u16],
+) -> Sought
+    requires { ⌜ (length (now words) ≡ 512) × (2341 ≤ length (now numbers)) × (length (now table) ≡ 512) ⌝ }
+    ensures { λ r. ⌜ Seeks (now (file .entry)) place r (now (words .exit)) (now (numbers .exit)) (now (table .exit)) ⌝ }
 {
-    match records::number_units(file, words, numbers) {
+    match records::number_units(file, words, numbers, table) {
         Checked::Units(_) => match locate(file, place) {
             Located::At { own, here } => Sought::Here { own, here },
             Located::Nowhere => {
@@ -44,28 +45,6 @@ pub fn find_step(file: &[u8], place: usize, words: &mut [u32], numbers: &mut [u1
         },
         Checked::Refused(r) => Sought::Refused(r),
     }
-}
-
-// What the step at `here` reads and writes, by a table of functions of its own.
-fn uses_of(
-    file: &[u8],
-    numbers: &[u16],
-    own: Cursor,
-    here: Cursor,
-    reads: &mut [u64],
-    writes: &mut [u64],
-)
-    requires { ⌜ (length (now file) ≤ 16384) × (2341 ≤ length (now numbers)) × Sound own × Sound here × (here .at + 4 ≤ length (now file))
-        × (length (now reads) ≡ 8) × (length (now writes) ≡ 8) ⌝ }
-    ensures { λ _. ⌜ ((us : List ℕ) (f : Function) → check one (now (file .entry)) ≡ units us
-        → take (length (numbersOf one (now (file .entry)))) (now (numbers .entry)) ≡ numbersOf one (now (file .entry)) → StandsAt (now (file .entry)) own
-        → f .abis ≡ from (now (file .entry)) (own .at) .abis → StandsAt (now (file .entry)) here → IsStep (now (file .entry)) (here .at)
-        → (now (reads .exit) ≡ unitRow one us (readsOf one (program one (now (file .entry))) f (stepFrom (now (file .entry)) (here .at))))
-        × (now (writes .exit) ≡ unitRow one us (writesOf one (program one (now (file .entry))) (stepFrom (now (file .entry)) (here .at))))) ⌝ }
-{
-    let mut table = [0u16; 512];
-    index_functions(file, &mut table);
-    uses_at(file, numbers, &table, own, here, reads, writes);
 }
 
 // Both rows of the step at a place.
@@ -80,9 +59,10 @@ pub fn rows_at(
     ensures { λ r. ⌜ Shows (now (file .entry)) place r (now (words .exit)) (now (reads .exit)) (now (writes .exit)) ⌝ }
 {
     let mut numbers = [0u16; 2341];
-    match find_step(file, place, words, &mut numbers) {
+    let mut table = [0u16; 512];
+    match find_step(file, place, words, &mut numbers, &mut table) {
         Sought::Here { own, here } => {
-            uses_of(file, &numbers, own, here, reads, writes);
+            uses_at(file, &numbers, &table, own, here, reads, writes);
             Answered::Done
         }
         Sought::Refused(r) => Answered::Refused(r),

@@ -2,14 +2,13 @@
 // Knows the program file and bit rows; gives the units and storages that an instruction or a terminator reads and writes, and its observable effect.
 mod ask;
 pub mod cursor;
-pub mod index;
 pub mod locate;
 pub mod uses;
 
 ghost use Rattle.units.specs.Ask.{readRow, writeRow, storageReadRow, storageWriteRow, rowOf, storageRowOf, Asks, Tells};
 use ask::Sought;
+use fields::bytes::tail_of;
 use records::Refusal;
-use records::bytes::tail_of;
 
 // The answer of a set query: the row is filled, or a refusal.
 pub enum Answered {
@@ -113,7 +112,8 @@ pub fn observable_effect(file: &[u8], place: usize, units: &mut [u32]) -> Effect
         return Effect::Refused(Refusal::Short);
     }
     let mut numbers = [0u16; 2341];
-    match ask::find_step(file, place, &mut units[..512], &mut numbers) {
+    let mut table = [0u16; 512];
+    match ask::find_step(file, place, &mut units[..512], &mut numbers, &mut table) {
         Sought::Here { own: _, here } => ask::effect_at(tail_of(file, here.at)),
         Sought::Refused(r) => Effect::Refused(r),
     }

@@ -4,13 +4,13 @@ ghost use mathlib.Core.List.{List};
 ghost use Prim.Native.Nat.{ℕ, _≤_};
 ghost use lib.Dec.{eqb};
 ghost use lib.ListN.{length};
-ghost use Rattle.records.specs.Pick.{_or_};
-ghost use Rattle.records.specs.Edition.{one};
+ghost use Rattle.fields.specs.Pick.{_or_};
+ghost use Rattle.fields.specs.Edition.{one};
 ghost use Rattle.records.specs.Check.{units, check};
 ghost use Rattle.units.specs.Along.{Locates, SoundBoth};
 use crate::cursor::Cursor;
-use crate::index::brings;
-use records::bytes::length_of;
+use crate::cursor::brings;
+use fields::bytes::length_of;
 
 // The cursor behind the function's record, and the one at the step; or no step begins there.
 pub enum Located {

@@ -2,19 +2,19 @@
 ghost use mathlib.Core.Path.{_≡_};
 ghost use mathlib.Core.List.{List};
 ghost use Prim.Native.Nat.{ℕ, _+_, _*_, _≤_};
-ghost use lib.ListN.{length, getD, drop};
-ghost use Rattle.records.specs.Table.{rowWord};
-ghost use Rattle.records.specs.Edition.{one};
+ghost use lib.ListN.{length, drop};
+ghost use Rattle.fields.specs.Table.{rowWord};
+ghost use Rattle.fields.specs.Edition.{one};
 ghost use Rattle.records.specs.Program.{Function, program, rowBy};
 ghost use Rattle.units.specs.Uses.{reads as readsOf, writes as writesOf};
 ghost use Rattle.units.specs.Rows.{unitRow};
 ghost use Rattle.units.specs.Along.{from, stepFrom, IsStep, StandsAt, Sound, Sane, Ready};
-ghost use Rattle.units.specs.Marks.{jotted, marks, Behind, rolesIn, fieldsIn, opensSeven, wantedBy, readIn, writtenIn, readSource, writtenSource, readRole};
+ghost use Rattle.units.specs.Marks.{jotted, marks, Behind, rolesIn, fieldsIn, opensSeven, wantedBy, readIn, writtenIn, calleeIn, takesAbis, readSource, readRole, readAbis, writtenAbis};
 use crate::cursor::Cursor;
-use records::bytes::tail_of;
-use records::table::end_entry_of;
-use records::table::entry_of;
-use records::table::field_in;
+use fields::bytes::tail_of;
+use fields::table::end_entry_of;
+use fields::table::entry_of;
+use fields::table::field_in;
 
 // The fields of a table's entry, without the count in its highest byte.
 const ABOVE: u64 = 0x0100_0000_0000_0000;
@@ -134,7 +134,7 @@ fn operand_rows(
 // The cursor behind the record of function n; far behind every file where there is none.
 fn callee_at(table: &[u16], n: u8) -> Cursor
     requires { ⌜ Sane (now table) ⌝ }
-    ensures { λ r. ⌜ (r .at ≡ getD (now (table .entry)) n 0) × (r .k ≡ getD (now (table .entry)) (256 + n) 0) × Sound r ⌝ }
+    ensures { λ r. ⌜ (r ≡ calleeIn (now (table .entry)) n) × Sound r ⌝ }
 {
     let i = n as usize;
     Cursor {
@@ -143,24 +143,29 @@ fn callee_at(table: &[u16], n: u8) -> Cursor
     }
 }
 
-// Whose ABI records a step reads: a call the callee's, Return those of its own function.
+// Whether a step takes ABI records: TailCall, Return, Call.
+fn takes_abis(ends: bool, op: u8) -> bool
+    ensures { λ r. ⌜ r ≡ takesAbis ends op ⌝ }
+{
+    if ends {
+        if op == 3 {
+            return true;
+        }
+        return op == 5;
+    }
+    op == 27
+}
+
+// Whose ABI records such a step reads: Return those of its own function, a call the callee's.
 fn read_source(ends: bool, op: u8, callee: Cursor, own: Cursor) -> Cursor
     ensures { λ r. ⌜ r ≡ readSource ends op callee own ⌝ }
 {
-    let none = Cursor { at: 65535, k: 0 };
     if ends {
-        if op == 3 {
-            return callee;
-        }
         if op == 5 {
             return own;
         }
-        return none;
     }
-    if op == 27 {
-        return callee;
-    }
-    none
+    callee
 }
 
 fn read_role(ends: bool, op: u8) -> u8
@@ -170,23 +175,47 @@ fn read_role(ends: bool, op: u8) -> u8
         if op == 5 {
             return RESULTS;
         }
-        return PARAMETERS;
     }
     PARAMETERS
 }
 
-// Whose ABI records a step writes: Call the callee's. TailCall writes nothing.
-fn written_source(ends: bool, op: u8, callee: Cursor) -> Cursor
-    ensures { λ r. ⌜ r ≡ writtenSource ends op callee ⌝ }
+// The units of the ABI records that a step reads and writes, where n is the callee. Most steps take none, and TailCall and Return write none.
+fn abi_rows(
+    file: &[u8],
+    numbers: &[u16],
+    table: &[u16],
+    own: Cursor,
+    ends: bool,
+    op: u8,
+    n: u8,
+    reads: &mut [u64],
+    writes: &mut [u64],
+)
+    requires { ⌜ (length (now file) ≤ 16384) × (2341 ≤ length (now numbers)) × Sane (now table) × Sound own × (length (now reads) ≡ 8) × (length (now writes) ≡ 8) ⌝ }
+    ensures { λ _. ⌜ (now (reads .exit) ≡ readAbis ends op (now (file .entry)) (now (numbers .entry)) (calleeIn (now (table .entry)) n) own (now (reads .entry)))
+        × (now (writes .exit) ≡ writtenAbis ends op (now (file .entry)) (now (numbers .entry)) (calleeIn (now (table .entry)) n) (now (writes .entry))) ⌝ }
 {
-    let none = Cursor { at: 65535, k: 0 };
-    if ends {
-        return none;
+    if takes_abis(ends, op) {
+        let callee = callee_at(table, n);
+        let read = read_source(ends, op, callee, own);
+        abi_row(
+            rest_of(file, read.at),
+            numbers,
+            read.k,
+            read_role(ends, op),
+            reads,
+        );
+        if ends {
+            return;
+        }
+        abi_row(
+            rest_of(file, callee.at),
+            numbers,
+            callee.k,
+            OUTCOMES,
+            writes,
+        );
     }
-    if op == 27 {
-        return callee;
-    }
-    none
 }
 
 // The fields of a step; none of a call and of Return.
@@ -224,23 +253,7 @@ pub fn uses_at(
     let tail = tail_of(file, here.at);
     let ends = tail[0] == 7;
     let op = tail[1];
-    let callee = callee_at(table, tail[3]);
-    let read = read_source(ends, op, callee, own);
-    abi_row(
-        rest_of(file, read.at),
-        numbers,
-        read.k,
-        read_role(ends, op),
-        reads,
-    );
-    let written = written_source(ends, op, callee);
-    abi_row(
-        rest_of(file, written.at),
-        numbers,
-        written.k,
-        OUTCOMES,
-        writes,
-    );
+    abi_rows(file, numbers, table, own, ends, op, tail[3], reads, writes);
     let fields = fields_of(ends, op, tail[2]);
     let operands = tail_of(tail, 4);
     let count = operand_rows(operands, numbers, here.k, fields, ends, reads, writes);

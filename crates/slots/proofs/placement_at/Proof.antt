@@ -1,14 +1,19 @@
--- `slots::placement_at` meets its contract. Slot k is inside the list, where it does not matter what would stand past the end;
--- the code's list and the contract's differ in nothing else. Assumes nothing.
-use Prim.Native.Nat.{_<_}
+-- `slots::placement_at` meets its contract. Slot k is number k % 16 of page k / 16, and inside a list it does not matter what would stand
+-- past its end. Assumes nothing.
 use mathlib.Core.Path.{_≡_, ap}
 use native.Mathlib.Omega.{arith}
 use lib.ListN.{length}
 use borrow.Author.Needs.{needs}
 use Rattle.slots.specs.declared.Slot.{Slot}
-use Rattle.slots.proofs.Laws.{inside-same, mapped-length}
+use Rattle.slots.proofs.Pages.{full-array, number-at}
 use Rattle.slots.proofs.placement_at.Statement.{statement}
 use Rattle.slots.proofs.placement_at.Tie as tie
+
+mul-page : tie.Need-mul-page
+mul-page c = search needs
+
+array-copy-out-page : tie.Need-array-copy-out-page
+array-copy-out-page c = search needs
 
 mul-t : tie.Need-mul-t
 mul-t c = search needs
@@ -18,10 +23,9 @@ array-copy-out-t c = search needs
 
 returns : tie.Need-returns
 returns c =
-    let a = c .before .args in
-    let long : length (a .t1) ≡ 256 = search (needs, mapped-length) in
-    let h : a .k < length (a .t1) = omega arith in
-    ap (λ (t : Slot). t .placement) (inside-same (a .t1) (a .k) _ _ h)
+    let a = c .before .before .before in
+    let long : length (a .args .t1) ≡ 16 = search needs in
+    ap (λ (t : Slot). t .placement) (number-at (a .args .t1) (a .args .k) _ _ (full-array 16 (a .args .t1) _ (a .good .0)) (omega arith))
 
 pub placement-at-spec : {M : Type 1} → statement M
-placement-at-spec = tie.close (tie.spec mul-t array-copy-out-t returns)
+placement-at-spec = tie.close (tie.spec mul-page array-copy-out-page mul-t array-copy-out-t returns)

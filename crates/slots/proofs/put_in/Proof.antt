@@ -98,40 +98,40 @@ module _ {M : Type 1} (𝓤 : URA M) (H : Heap 𝓤) (A : Atoms 𝓤) (W : Given
 
   -- What the triple of `put` binds outside. The count is the array's.
   abbrev to : Lft → ℕ → GName → Put 𝓤 H A mem′ run .Ghost
-  to κ l γ = (((κ, tt), (fullShare, tt), tt, (x l γ, (i, (v, tt))), (sliceVal (l, 0) 256 ∷ [], (vint w64 i ∷ [], (mv ∷ [], tt)))), tt)
+  to κ l γ = (((κ, tt), (fullShare, tt), tt, (x l γ, (i, (v, tt))), (sliceVal (l, 0) 16 ∷ [], (vint w64 i ∷ [], (mv ∷ [], tt)))), tt)
 
-  asked : (κ : Lft) (l : ℕ) (γ : GName) → Is T.the-row v (mv ∷ []) → i < length ys → ent 𝓤 (⋆ 𝓤 H A (‵ (flft κ fullShare) ∷ ‵ (MutSlice (named 0) κ T.the-row .own (x l γ) (sliceVal (l, 0) 256 ∷ [])) ∷ [])) (Put 𝓤 H A mem′ run .pre (to κ l γ))
+  asked : (κ : Lft) (l : ℕ) (γ : GName) → Is T.the-row v (mv ∷ []) → i < length ys → ent 𝓤 (⋆ 𝓤 H A (‵ (flft κ fullShare) ∷ ‵ (MutSlice (named 0) κ T.the-row .own (x l γ) (sliceVal (l, 0) 16 ∷ [])) ∷ [])) (Put 𝓤 H A mem′ run .pre (to κ l γ))
   asked κ l γ gv within =
-      qed W (‵ (flft κ fullShare) ∷ ‵ (MutSlice (named 0) κ T.the-row .own (x l γ) (sliceVal (l, 0) 256 ∷ [])) ∷ []) ∵ says ! within $
+      qed W (‵ (flft κ fullShare) ∷ ‵ (MutSlice (named 0) κ T.the-row .own (x l γ) (sliceVal (l, 0) 16 ∷ [])) ∷ []) ∵ says ! within $
       nothing ! $ move ! (1 ∷ 0 ∷ []) $ join ! $ frame ! $ nothing ! $ owned ! T.the-row (Is T.the-row) (LL.makes T.the-type T′.the-plain 𝓤 H A) v _ gv $ fjoin ! $
       owned ! usize (Is usize) (uint-makes 𝓤 H A W w64) i _ (refl, i-fits) $ fjoin ! $ move ! (1 ∷ 0 ∷ []) $ fjoin ! $ done !
 
   -- An array that was written whole is its elements, to be written to.
-  cells-of : (l : ℕ) → length ys ≡ 256 → ent 𝓤 (⋆ 𝓤 H A (‵ (fat fullShare τ l 0 (valOf ys)) ∷ ‵ (AR .own ys (valOf ys ∷ [])) ∷ [])) (sem 𝓤 H A (cells (mem T.the-row) ys l 0))
+  cells-of : (l : ℕ) → length ys ≡ 16 → ent 𝓤 (⋆ 𝓤 H A (‵ (fat fullShare τ l 0 (valOf ys)) ∷ ‵ (AR .own ys (valOf ys ∷ [])) ∷ [])) (sem 𝓤 H A (cells (mem T.the-row) ys l 0))
   unfolding partOf
   cells-of l len =
       qed W (‵ (fat fullShare τ l 0 (valOf ys)) ∷ ‵ (AR .own ys (valOf ys ∷ [])) ∷ []) ∵
       use2 W (‵ (arr-parts (shares T.the-row) (length ys) .part fullShare ys l 0)) (apart 𝓤 H A W ys l len) $ fsplit ! $ drop ! $ by ! (whole-in 𝓤 H A W T.the-row ys l 0)
 
   -- The elements of the last list are an array again: what is in memory, and what it owns.
-  array-of : (l n : ℕ) → n ≡ 256 → ent 𝓤 (sem 𝓤 H A (Arr (mem T.the-row) n .lies zs l 0)) (⋆ 𝓤 H A (‵ (fat fullShare τ l 0 (valOf zs)) ∷ ‵ (AR .own zs (valOf zs ∷ [])) ∷ []))
+  array-of : (l n : ℕ) → n ≡ 16 → ent 𝓤 (sem 𝓤 H A (Arr (mem T.the-row) n .lies zs l 0)) (⋆ 𝓤 H A (‵ (fat fullShare τ l 0 (valOf zs)) ∷ ‵ (AR .own zs (valOf zs ∷ [])) ∷ []))
   unfolding partOf
   array-of l n len =
       qed W (‵ (Arr (mem T.the-row) n .lies zs l 0) ∷ []) ∵ fsplit ! $ feqL ! (λ e. use1 W (‵ (denote.Index.row T.the-row fullShare zs l 0)) (whole-out 𝓤 H A W T.the-row zs l 0) $
       feqI ! ℕ (length zs) (length zs) refl $ fjoin ! $ by ! (whole-again 𝓤 H A W zs l (e ∙ len)))
 
   module _ (C : Calls 𝓤 H) (Λ : Loops 𝓤 H) (fm : FmC 𝓤 H (W .laws) C) (known : Triple 𝓤 (C #slots·put) (Put 𝓤 H A mem′ run)) where
-    walk : Is AR ys (valOf ys ∷ []) → Is T.the-row v (mv ∷ []) → length ys ≡ 256 → i < length ys → ent 𝓤 (onEntry 𝓤 H A put-in.signature tt tt a at) (WpFn 𝓤 H C Λ code.function (valOf ys ∷ vint w64 i ∷ mv ∷ []) Post)
+    walk : Is AR ys (valOf ys ∷ []) → Is T.the-row v (mv ∷ []) → length ys ≡ 16 → i < length ys → ent 𝓤 (onEntry 𝓤 H A put-in.signature tt tt a at) (WpFn 𝓤 H C Λ code.function (valOf ys ∷ vint w64 i ∷ mv ∷ []) Post)
     walk g gv len within =
         qed W (‵ ftrue ∷ ‵ (owns (AR ∷ usize ∷ T.the-row ∷ []) a at) ∷ []) ∵ enter ! C Λ code.function (valOf ys ∷ vint w64 i ∷ mv ∷ []) _ $
         alloc1 ! (λ l₀. alloc1 ! (λ l₁. alloc1 ! (λ l₂. alloc1 ! (λ l₃. alloc1 ! (λ l₄. alloc1 ! (λ l₅. alloc1 ! (λ l₆. alloc1 ! (λ l₇. alloc0 ! $ params1 ! $
-        pass1 ! (init ! 12 refl (array-lawful 𝓤 H A W T.the-row (LL.lawful T.the-type T′.the-laws 𝓤 H A W) 256 .typed ys (valOf ys ∷ []) g .0)) $ pass1 ! (init ! 10 refl (tt, record { fits = i-fits })) $
+        pass1 ! (init ! 12 refl (array-lawful 𝓤 H A W T.the-row (LL.lawful T.the-type T′.the-laws 𝓤 H A W) 16 .typed ys (valOf ys ∷ []) g .0)) $ pass1 ! (init ! 10 refl (tt, record { fits = i-fits })) $
         pass1 ! (init ! 8 refl (LL.lawful T.the-type T′.the-laws 𝓤 H A W .typed v (mv ∷ []) gv .0)) $ pass0 ! $
-        assigns ! (of-opd ! (load ! (from ! (stop !)) (look ! 12 refl))) (from ! (stop !)) (init ! 6 refl (array-lawful 𝓤 H A W T.the-row (LL.lawful T.the-type T′.the-laws 𝓤 H A W) 256 .typed ys (valOf ys ∷ []) g .0)) $
+        assigns ! (of-opd ! (load ! (from ! (stop !)) (look ! 12 refl))) (from ! (stop !)) (init ! 6 refl (array-lawful 𝓤 H A W T.the-row (LL.lawful T.the-type T′.the-laws 𝓤 H A W) 16 .typed ys (valOf ys ∷ []) g .0)) $
         assigns ! (addr ! (from ! (stop !))) (from ! (stop !)) (init ! 2 refl (tt, tt)) $
         assigns ! (agg ! (and-then ! (load ! (from ! (stop !)) (look ! 2 refl)) (and-then ! (lit ! tt) (no-more !)))) (from ! (stop !)) (init ! 0 refl (tt, (tt, (record { fits = lit< tt }, tt)))) $
         -- What is had is [_7; …; _6; …; room for _5; …; _4; …; _3; …; _2; …; _1; …; room for _0; …; true; what list, i and t own].
-        move ! (17 ∷ []) $ fsplit ! $ move ! (1 ∷ []) $ drop ! $ use1 W (‵ (AR .own ys (valOf ys ∷ [])) ⊛ ‵ (AR .own ys (valOf ys ∷ []))) (array-copy 𝓤 H A W T.the-row (LL.copy T.the-type T′.the-copy 𝓤 H A W) 256 .twice ys (valOf ys ∷ [])) $ split ! $
+        move ! (17 ∷ []) $ fsplit ! $ move ! (1 ∷ []) $ drop ! $ use1 W (‵ (AR .own ys (valOf ys ∷ [])) ⊛ ‵ (AR .own ys (valOf ys ∷ []))) (array-copy 𝓤 H A W T.the-row (LL.copy T.the-type T′.the-copy 𝓤 H A W) 16 .twice ys (valOf ys ∷ [])) $ split ! $
         -- What is had is [what list owns; the same; _7; …; _6; …; _5; …; _4; …; …].
         move ! (8 ∷ 0 ∷ []) $ use2 W (‵ (cells (mem T.the-row) ys l₄ 0)) (cells-of l₄ len) $
         lft-new ! tt (λ α. move ! (1 ∷ []) $
@@ -151,15 +151,15 @@ module _ {M : Type 1} (𝓤 : URA M) (H : Heap 𝓤) (A : Atoms 𝓤) (W : Given
         use3 W (later (‵ (Arr (mem T.the-row) (length ys) .lies zs l₄ 0))) (slice-back 𝓤 H A W T.the-row (α ∷ []) γ zs (length ys) l₄ 0) $ await ! tt $
         use1 W (‵ (fat fullShare τ l₄ 0 (valOf zs)) ⊛ ‵ (AR .own zs (valOf zs ∷ []))) (array-of l₄ (length ys) len) $ split ! $ move ! (1 ∷ []) $ peeks ! AR (Is AR) (shows 𝓤 H A AR) zs (valOf zs ∷ []) (λ gz.
         -- What is had is [what the list owns; _4; the unit; true; its length; …; what list owns; _7; …; _6; …; _5; …; d₄; _3; …; _2; …; _1; …; room for _0; …; true].
-        assigns ! (of-opd ! (load ! (from ! (stop !)) (look ! 1 refl))) (from ! (stop !)) (init ! 20 refl (array-lawful 𝓤 H A W T.the-row (LL.lawful T.the-type T′.the-laws 𝓤 H A W) 256 .typed zs (valOf zs ∷ []) gz .0)) $
+        assigns ! (of-opd ! (load ! (from ! (stop !)) (look ! 1 refl))) (from ! (stop !)) (init ! 20 refl (array-lawful 𝓤 H A W T.the-row (LL.lawful T.the-type T′.the-laws 𝓤 H A W) 16 .typed zs (valOf zs ∷ []) gz .0)) $
         returns ! (look ! 20 refl) $ forget ! 1 refl $ forget ! 7 refl $ forget ! 9 refl $ forget ! 11 refl $ forget ! 14 refl $ forget ! 16 refl $ forget ! 18 refl $ forget ! 20 refl $
         move ! (20 ∷ 21 ∷ []) $ free1 ! $ move ! (18 ∷ 19 ∷ []) $ free1 ! $ move ! (16 ∷ 17 ∷ []) $ free1 ! $ move ! (14 ∷ 15 ∷ []) $ free1 ! $ move ! (1 ∷ 13 ∷ []) $ free1 ! $ move ! (10 ∷ 11 ∷ []) $ free1 ! $ move ! (8 ∷ 9 ∷ []) $ free1 ! $ move ! (6 ∷ 7 ∷ []) $ free1 ! $ free0 ! $
         keep ! (0 ∷ 5 ∷ []) $ by ! (exits gv)))))))))))))))))
 
 module _ {M : Type 1} (𝓤 : URA M) (H : Heap 𝓤) (A : Atoms 𝓤) (W : Given 𝓤 H A) (mem : Memory → SProp 𝓤) (run : Routine → Fun 𝓤) where
   put-in-walks : (C : Calls 𝓤 H) (Λ : Loops 𝓤 H) → FmC 𝓤 H (W .laws) C → Triple 𝓤 (C #slots·put) (Put 𝓤 H A mem run) → Walks 𝓤 H A put-in.ended stayed (WpFn 𝓤 H C Λ code.function) (put-in.clauses 𝓤 H A mem run)
-  put-in-walks C Λ fm known = walked 𝓤 H A put-in.ended stayed (put-in.clauses 𝓤 H A mem run) (WpFn 𝓤 H C Λ code.function) (λ κs. (array-vals (LL.vals T.the-type T′.the-laws), (uint-vals w64, (LL.vals T.the-type T′.the-laws, tt)))) (λ κs. (array-tells T.the-row (LL.vals T.the-type T′.the-laws) (LL.tells T.the-type T′.the-laws) 256, (uint-tells w64, (LL.tells T.the-type T′.the-laws, tt))))
-      (λ κs qs bounds a g are. needs 𝓤 (a .1 .0 < 256) _ (λ l.
+  put-in-walks C Λ fm known = walked 𝓤 H A put-in.ended stayed (put-in.clauses 𝓤 H A mem run) (WpFn 𝓤 H C Λ code.function) (λ κs. (array-vals (LL.vals T.the-type T′.the-laws), (uint-vals w64, (LL.vals T.the-type T′.the-laws, tt)))) (λ κs. (array-tells T.the-row (LL.vals T.the-type T′.the-laws) (LL.tells T.the-type T′.the-laws) 16, (uint-tells w64, (LL.tells T.the-type T′.the-laws, tt))))
+      (λ κs qs bounds a g are. needs 𝓤 (a .1 .0 < 16) _ (λ l.
       walk 𝓤 H A W mem run (a .0) (a .1 .0) (a .1 .1 .0) (are .1 .0 .1) C Λ fm known (are .0) (are .1 .1 .0) (are .0 .1 .0 .1) (subst (λ (n : ℕ). a .1 .0 < n) (sym (are .0 .1 .0 .1)) l)))
 
 put-in-meets : {M : Type 1} (𝓤 : URA M) (H : Heap 𝓤) (A : Atoms 𝓤) (W : Given 𝓤 H A) (mem : Memory → SProp 𝓤) (run : Routine → Fun 𝓤) (𝓣 : Tables 𝓤 H) → Triple 𝓤 (𝓣 .C #slots·put) (Put 𝓤 H A mem run)

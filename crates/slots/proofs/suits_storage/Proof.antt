@@ -6,7 +6,7 @@ use mathlib.Core.Path.{_≡_, sym, ap, _∙_}
 use mathlib.Core.Bool.{Bool, true, false, not}
 use Prim.Native.Nat.{ℕ}
 use lib.Dec.{eqb}
-use Rattle.records.specs.Pick.{tests, pick-yes, pick-no, _and_, _or_}
+use Rattle.fields.specs.Pick.{tests, pick-yes, pick-no, _and_, _or_}
 use Rattle.storages.specs.declared.Storage.{Storage}
 use Rattle.storages.specs.Placement.{regionOf}
 use Rattle.storages.specs.Storage.{application, allows}

@@ -1,6 +1,6 @@
 -- In each arm the code is known, and the tests of the definition on a known number compute; in the last it is none of the twelve.
 -- Assumes nothing.
-use Rattle.records.specs.Pick.{pick, tests}
+use Rattle.fields.specs.Pick.{pick, tests}
 use Rattle.storages.specs.Placement.{fixedAt}
 use Rattle.storages.proofs.fixed_at.Statement.{statement}
 use Rattle.storages.proofs.fixed_at.Tie as tie

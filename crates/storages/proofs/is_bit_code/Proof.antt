@@ -1,6 +1,6 @@
 -- The tests are those of the definition, in its order, and each decides its choice.
 -- Assumes nothing.
-use Rattle.records.specs.Pick.{tests}
+use Rattle.fields.specs.Pick.{tests}
 use Rattle.storages.specs.Storage.{bitCode}
 use Rattle.storages.proofs.is_bit_code.Statement.{statement}
 use Rattle.storages.proofs.is_bit_code.Tie as tie

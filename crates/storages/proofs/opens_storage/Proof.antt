@@ -3,8 +3,8 @@
 use mathlib.Core.Path.{sym}
 use borrow.Author.Needs.{needs}
 use borrow.Author.Tests.{lt-leb, le-leb}
-use Rattle.records.specs.Pick.{pick-yes, pick-no}
-use Rattle.records.specs.Record.{u8At}
+use Rattle.fields.specs.Pick.{pick-yes, pick-no}
+use Rattle.fields.specs.Record.{u8At}
 use Rattle.storages.specs.File.{opensStorage}
 use Rattle.storages.proofs.opens_storage.Statement.{statement}
 use Rattle.storages.proofs.opens_storage.Tie as tie

@@ -1,6 +1,6 @@
 -- The numbers are read where the record has them, and make up the storage field by field.
 -- Assumes nothing.
-use Rattle.records.specs.Record.{u8At, storageIn}
+use Rattle.fields.specs.Record.{u8At, storageIn}
 use Rattle.storages.specs.Storage.{stored}
 use borrow.Author.Needs.{needs}
 use Rattle.storages.proofs.storage_at.Statement.{statement}

@@ -1,6 +1,6 @@
 -- The tests are those of the definition, in its order, and each decides its choice.
 -- Assumes nothing.
-use Rattle.records.specs.Pick.{tests}
+use Rattle.fields.specs.Pick.{tests}
 use Rattle.storages.specs.Storage.{isBit}
 use Rattle.storages.proofs.takes_bit.Statement.{statement}
 use Rattle.storages.proofs.takes_bit.Tie as tie

@@ -1,7 +1,7 @@
 -- The tests are those of the definition, in its order, and each decides its choice.
 -- Assumes nothing.
 use mathlib.Core.Path.{sym, _∙_}
-use Rattle.records.specs.Pick.{pick}
+use Rattle.fields.specs.Pick.{pick}
 use Rattle.storages.specs.Storage.{tries}
 use borrow.Author.Needs.{needs}
 use borrow.Author.Tests.{eq-eqb, ne-eqb, not-true, not-false}

@@ -1,13 +1,13 @@
 -- `place_all` meets its contract. The invariant: the storages still ahead, placed from the state that the words stand for, come to what all of them come to
 -- from the start. Each turn takes one record; at the end none is ahead. Assumes nothing.
-use Prim.Native.Nat.{_-_}
+use Prim.Native.Nat.{_-_, _<_}
 use mathlib.Core.Path.{sym, _∙_}
 use mathlib.Core.Logic.{⊎-elim}
 use native.Mathlib.Omega.{arith}
 use lib.ListN.{length}
 use borrow.Author.Needs.{needs}
 use Rattle.storages.proofs.Declared.{opened, opens-inside}
-use Rattle.allocator.proofs.Going.{Going, going-start, Follows, placed-follows, opened-follows, going-held, front-fits, going-refused, going-on, going-end, clear-long}
+use Rattle.allocator.proofs.Going.{Going, going-start, Follows, placed-follows, opened-follows, going-held, front-fits, front-few, going-refused, going-on, going-end, clear-long}
 use Rattle.allocator.proofs.all.place_all.Statement.{statement}
 use Rattle.allocator.proofs.all.place_all.Tie as tie
 
@@ -25,7 +25,7 @@ no-slots-requires c κs = search needs
 loop-holds : tie.Need-loop-holds Inv-loop μ-loop
 loop-holds c =
     let p = c .before .before .before .before .before .before .before .before .before .before .pre in
-    going-start _ _ _ _ _ _ _ _ _ _ (p .0) (p .1) (p .6) (p .7) (p .8) (p .9)
+    going-start _ _ _ _ _ _ _ _ _ _ (p .0) (p .1) (p .6) (p .7) (p .8) (p .9) (c .no-slots .ensures)
 
 tail-of-requires : tie.Need-tail-of-requires Inv-loop μ-loop
 tail-of-requires c κs = omega arith
@@ -77,22 +77,37 @@ enum-told c = search needs
 enum-known-p : tie.Need-enum-known-p Inv-loop μ-loop
 enum-known-p c = search needs
 
-slot-of-requires : tie.Need-slot-of-requires Inv-loop μ-loop
-slot-of-requires c κs = search needs
-
-put-in-requires : tie.Need-put-in-requires Inv-loop μ-loop
-put-in-requires c κs =
-    let z = c .before .before .before .before .before .before .before .before .before .before .before .before .before .before .before .before .before .before .before .before .before .before .before in
+-- Where a storage opens a slot there is room for one more.
+slots-few : (c : tie.After-known-told Inv-loop μ-loop) → c .before .before .before .before .before .before .before .before .before .before .before .before .before .before .before .before .before .before .before .before .before .before .before .before .before .before .before .loop .n < 256
+slots-few c =
+    let z = c .before .before .before .before .before .before .before .before .before .before .before .before .before .before .before .before .before .before .before .before .before .before in
     let o = z .before .before in
     let t = o .before in
     let l = t .before .before in
     let f = l .before .before .before .before .before .before .before .before .before .before .before .args .file .now in
     let q = opened f _ (l .loop .at) _ _ (t .before .tail-of .ensures .0) (t .opens-storage .ensures) (o .if1 .taken) in
-    let w = front-fits (l .loop .inv) _ _ (z .before .tail-of2 .ensures .0) (z .storage-at .ensures) q in
-    omega (arith, w .0, going-held (l .loop .inv) .1 .kept .few)
+    front-few (l .loop .inv) _ _ (z .before .tail-of2 .ensures .0) (z .storage-at .ensures) q
+
+mul-page : tie.Need-mul-page Inv-loop μ-loop
+mul-page c = omega (arith, slots-few c)
+
+array-copy-out-page : tie.Need-array-copy-out-page Inv-loop μ-loop
+array-copy-out-page c = omega (arith, slots-few c)
+
+slot-of-requires : tie.Need-slot-of-requires Inv-loop μ-loop
+slot-of-requires c κs = search needs
+
+put-page-requires : tie.Need-put-page-requires Inv-loop μ-loop
+put-page-requires c κs = omega arith
+
+mul-list : tie.Need-mul-list Inv-loop μ-loop
+mul-list c = omega (arith, slots-few (c .before .before .before))
+
+array-set-from-list : tie.Need-array-set-from-list Inv-loop μ-loop
+array-set-from-list c = omega (arith, slots-few (c .before .before .before))
 
 add-n : tie.Need-add-n Inv-loop μ-loop
-add-n c = let l = c .before .before .before .before .before .before .before .before .before .before .before .before .before .before .before .before .before .before .before .before .before .before .before .before .before .before .before .before .before in omega (arith, l .loop .inv .few, going-held (l .loop .inv) .1 .kept .few)
+add-n c = omega (arith, slots-few (c .before .before .before))
 
 enum-known-r : tie.Need-enum-known-r Inv-loop μ-loop
 enum-known-r c = search needs
@@ -178,11 +193,12 @@ loop-again c =
     let l = t .before .before in
     let f = l .before .before .before .before .before .before .before .before .before .before .before .args .file .now in
     let q = opened f _ (l .loop .at) _ _ (t .before .tail-of .ensures .0) (t .opens-storage .ensures) (o .if1 .taken) in
+    let few = front-few (l .loop .inv) _ _ (z .before .tail-of2 .ensures .0) (z .storage-at .ensures) q in
     let v = n .place-one .result in
     let s = z .storage-at .result in
     let follows : Follows (l .loop .list) (l .loop .n) s v (c .match .list) (c .match .n) =
-    ⊎-elim (λ w. placed-follows (l .loop .list) (l .loop .n) s v (c .match .list) (c .match .n) (w .1 .given .1) (w .2) (w .3))
-    (λ w. opened-follows (l .loop .list) (l .loop .n) s v (c .match .list) (c .match .n) _ _ (w .1 .given .1) (w .3 .ensures) (w .5 ∙ w .4 .ensures) (w .6)) (c .match .came) in
+    ⊎-elim (λ w. placed-follows (l .loop .list) (l .loop .n) s v (c .match .list) (c .match .n) (l .loop .inv .pages) (l .loop .inv .full) (w .1 .given .1) (w .2) (w .3))
+    (λ w. opened-follows (l .loop .list) (l .loop .n) s v (c .match .list) (c .match .n) (l .loop .inv .pages) (l .loop .inv .full) few _ _ _ _ (w .1 .given .1) (w .4 .ensures) (w .5 .ensures) (w .6) (w .7)) (c .match .came) in
     going-on (l .loop .inv) _ _ (z .before .tail-of2 .ensures .0) (z .storage-at .ensures) q v _ _ _ _ _ _ (n .place-one .ensures) (c .match .list) (c .match .n) follows
     (d .before .before .before .before .before .before .before .before .before .before .app .given) (d .before .before .before .before .before .before .before .before .work .given) (d .before .before .before .before .before .before .ids .given) (d .before .before .before .before .owners .given) (d .before .before .numbers .given) (d .out .given)
 
@@ -226,8 +242,12 @@ place-all-spec =
     place-one-requires
     enum-told
     enum-known-p
+    mul-page
+    array-copy-out-page
     slot-of-requires
-    put-in-requires
+    put-page-requires
+    mul-list
+    array-set-from-list
     add-n
     enum-known-r
     same-length

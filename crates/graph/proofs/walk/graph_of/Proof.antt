@@ -7,12 +7,6 @@ use borrow.Author.Needs.{needs}
 use Rattle.graph.proofs.walk.graph_of.Statement.{statement}
 use Rattle.graph.proofs.walk.graph_of.Tie as tie
 
-slice-aggregate-index-functions : tie.Need-slice-aggregate-index-functions
-slice-aggregate-index-functions c = search needs
-
-index-functions-requires : tie.Need-index-functions-requires
-index-functions-requires c κs = search needs
-
 slice-aggregate-unit-rows : tie.Need-slice-aggregate-unit-rows
 slice-aggregate-unit-rows c = search needs
 
@@ -28,26 +22,22 @@ slice-aggregate-take-functions-2 c = search needs
 slice-aggregate-take-functions-3 : tie.Need-slice-aggregate-take-functions-3
 slice-aggregate-take-functions-3 c = search needs
 
-slice-aggregate-take-functions-4 : tie.Need-slice-aggregate-take-functions-4
-slice-aggregate-take-functions-4 c = search needs
-
 take-functions-requires : tie.Need-take-functions-requires
 take-functions-requires c κs =
-    let p = c .before .before .before .before .before .before .before .before .before .before .before .before .before .before .before .before .before .before .pre in
-    let i = c .before .before .before .before .before .before .before .before .before .before .index-functions .ensures in
-    (p .0, p .2, i .0, p .3, search needs, p .5, blank-is 2048, p .7, blank-is 4, (p .8 .0, granted-all _ _ _ _ _ _ _ (p .8 .1) (i .1) (c .before .before .before .before .before .before .before .unit-rows .ensures)))
+    let p = c .before .before .before .before .before .before .before .before .before .before .before .before .before .before .before .pre in
+    (p .0, p .2, p .3, p .4, search needs, p .6, blank-is 2048, p .8, blank-is 4, (p .9 .0, granted-all _ _ _ _ _ _ _ (p .9 .1) (c .before .before .before .before .before .before .unit-rows .ensures)))
 
 slice-aggregate-close : tie.Need-slice-aggregate-close
 slice-aggregate-close c = search needs
 
 close-requires : tie.Need-close-requires
-close-requires c κs = (search needs, search needs, blank-length _ _ (c .before .before .before .before .before .before .before .before .before .before .before .before .before .before .before .before .before .before .before .before .before .before .before .before .before .before .before .pre .6))
+close-requires c κs = (search needs, search needs, blank-length _ _ (c .before .before .before .before .before .before .before .before .before .before .before .before .before .before .before .before .before .before .before .before .before .before .before .before .pre .7))
 
 slice-aggregate-hold : tie.Need-slice-aggregate-hold
 slice-aggregate-hold c = search needs
 
 hold-requires : tie.Need-hold-requires
-hold-requires c κs = (c .before .before .before .before .before .before .before .before .before .before .before .before .before .before .before .before .before .before .before .before .before .before .before .before .before .before .before .before .before .before .before .before .pre .1, search needs, omega (arith, blank-length _ _ (c .before .before .before .before .before .before .before .before .before .before .before .before .before .before .before .before .before .before .before .before .before .before .before .before .before .before .before .before .before .before .before .before .pre .6)))
+hold-requires c κs = let p = c .before .before .before .before .before .before .before .before .before .before .before .before .before .before .before .before .before .before .before .before .before .before .before .before .before .before .before .before .before .pre in (p .1, search needs, omega (arith, blank-length _ _ (p .7)))
 
 same-length : tie.Need-same-length
 same-length c = search needs
@@ -61,22 +51,19 @@ same-length-3 c = search needs
 returns : tie.Need-returns
 returns c =
     let c16 = c .before .before .before .before .before .before .before .before .before .before .before .before .before .before .before .before in
-    let c24 = c16 .before .before .before .before .before .before .before .before in
-    let c35 = c24 .before .before .before .before .before .before .before .before .before .before .before in
-    λ us k. whole-all _ us _ _ _ _ _ _ _ _ _ _ _ k (c16 .take-functions .ensures us (granted-all _ us _ _ _ _ _ k (c24 .before .before .before .index-functions .ensures .1) (c24 .unit-rows .ensures))) (c35 .pre .6) (c .before .before .before .before .before .before .before .close .ensures) (c .before .before .hold .ensures)
+    let c23 = c16 .before .before .before .before .before .before .before in
+    let start = c23 .before .before .before .before .before .before .before .before .before in
+    λ us k. whole-all _ us _ _ _ _ _ _ _ _ _ _ _ _ k (c16 .take-functions .ensures us (granted-all _ us _ _ _ _ _ k (c23 .unit-rows .ensures))) (start .pre .7) (c .before .before .before .before .before .before .before .close .ensures) (c .before .before .hold .ensures)
 
 pub graph-of-spec : {M : Type 1} → statement M
 graph-of-spec =
     tie.close
     (tie.spec
-    slice-aggregate-index-functions
-    index-functions-requires
     slice-aggregate-unit-rows
     unit-rows-requires
     slice-aggregate-take-functions
     slice-aggregate-take-functions-2
     slice-aggregate-take-functions-3
-    slice-aggregate-take-functions-4
     take-functions-requires
     slice-aggregate-close
     close-requires

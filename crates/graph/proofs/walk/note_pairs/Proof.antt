@@ -1,6 +1,6 @@
 -- `note_pairs` meets its contract: the test chooses as the contract chooses.
 -- Assumes nothing.
-use Rattle.records.specs.Pick.{pick-yes, pick-no}
+use Rattle.fields.specs.Pick.{pick-yes, pick-no}
 use borrow.Author.Tests.{lt-ltb, le-ltb, eq-eqb, ne-eqb}
 use borrow.Author.Needs.{needs}
 use Rattle.graph.proofs.walk.note_pairs.Statement.{statement}

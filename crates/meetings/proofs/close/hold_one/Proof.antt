@@ -3,7 +3,7 @@
 use mathlib.Core.Path.{sym, _∙_}
 use borrow.Author.Needs.{needs}
 use borrow.Author.Tests.{lt-ltb, le-ltb}
-use Rattle.records.proofs.Front.{and-make}
+use Rattle.fields.proofs.Front.{and-make}
 use Rattle.meetings.proofs.Closes.{neither, not-second, linked-no, linked-yes}
 use Rattle.meetings.proofs.close.hold_one.Statement.{statement}
 use Rattle.meetings.proofs.close.hold_one.Tie as tie

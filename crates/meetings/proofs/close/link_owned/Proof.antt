@@ -2,7 +2,7 @@
 -- Assumes nothing.
 use borrow.Author.Needs.{needs}
 use borrow.Author.Tests.{eq-eqb, ne-eqb, lt-ltb, le-ltb}
-use Rattle.records.proofs.Front.{and-make}
+use Rattle.fields.proofs.Front.{and-make}
 use Rattle.meetings.proofs.Closes.{neither, not-second, linked-no, linked-yes}
 use Rattle.meetings.proofs.close.link_owned.Statement.{statement}
 use Rattle.meetings.proofs.close.link_owned.Tie as tie

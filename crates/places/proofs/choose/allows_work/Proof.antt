@@ -1,7 +1,7 @@
 -- Shadow is asked first: where it is allowed, either of the two is.
 -- Where it is not, the answer for work decides.
 use mathlib.Core.Path.{sym, _∙_}
-use Rattle.records.specs.Pick.{pick-yes, pick-no}
+use Rattle.fields.specs.Pick.{pick-yes, pick-no}
 use borrow.Author.Needs.{needs}
 use Rattle.places.proofs.choose.allows_work.Statement.{statement}
 use Rattle.places.proofs.choose.allows_work.Tie as tie

@@ -3,7 +3,7 @@
 use mathlib.Core.Path.{sym, ap, subst, _∙_}
 use Prim.Native.Nat.{ℕ}
 use native.Mathlib.Omega.{arith}
-use Rattle.records.specs.Pick.{pick-yes, pick-no}
+use Rattle.fields.specs.Pick.{pick-yes, pick-no}
 use Rattle.storages.specs.declared.Placement.the-variants.{ApplicationRam}
 use Rattle.maps.specs.declared.Found.{Found}
 use Rattle.maps.specs.Maps.{FoundIn}

@@ -2,7 +2,7 @@
 -- A found bit lies below hi, so below 256.
 use mathlib.Core.Path.{sym, ap, _∙_}
 use native.Mathlib.Omega.{arith}
-use Rattle.records.specs.Pick.{pick-yes, pick-no}
+use Rattle.fields.specs.Pick.{pick-yes, pick-no}
 use Rattle.maps.specs.declared.FoundBit.{FoundBit}
 use Rattle.maps.specs.Maps.{highBit}
 use Rattle.places.specs.Place.{appBit, chooseBit}

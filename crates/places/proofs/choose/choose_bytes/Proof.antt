@@ -2,7 +2,7 @@
 -- A found window begins before the map's end, so below 256.
 use mathlib.Core.Path.{sym, ap, _∙_}
 use native.Mathlib.Omega.{arith}
-use Rattle.records.specs.Pick.{pick-yes, pick-no}
+use Rattle.fields.specs.Pick.{pick-yes, pick-no}
 use Rattle.maps.specs.declared.Found.{Found}
 use Rattle.places.specs.Place.{appBytes, chooseBytes}
 use Rattle.places.proofs.Choosing.{found-below}

@@ -4,7 +4,7 @@ use mathlib.Core.Path.{_≡_, sym, ap, _∙_}
 use mathlib.Core.Bool.{Bool, true, false}
 use Prim.Native.Nat.{ℕ}
 use borrow.Author.Tests.{not-true, not-false}
-use Rattle.records.specs.Pick.{pick-yes, pick-no, _and_}
+use Rattle.fields.specs.Pick.{pick-yes, pick-no, _and_}
 use Rattle.records.specs.declared.Refusal.the-variants.{BadFixed, Conflict}
 use Rattle.storages.specs.declared.Placement.{Placement}
 use Rattle.storages.specs.declared.Storage.{Storage}

@@ -1,7 +1,7 @@
 -- The carry flag is asked first, as in the definition.
 -- After it the kind decides between a bit and bytes.
 use mathlib.Core.Path.{sym, _∙_}
-use Rattle.records.specs.Pick.{pick-yes, pick-no}
+use Rattle.fields.specs.Pick.{pick-yes, pick-no}
 use Rattle.places.specs.Place.{chooseFree}
 use borrow.Author.Needs.{needs}
 use Rattle.places.proofs.choose.choose_free.Statement.{statement}

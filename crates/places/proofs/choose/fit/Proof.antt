@@ -1,6 +1,6 @@
 -- The bit is tested before the offset, as in the definition.
 -- Each branch returns what the definition picks there.
-use Rattle.records.specs.Pick.{tests}
+use Rattle.fields.specs.Pick.{tests}
 use Rattle.places.specs.Place.{fitted}
 use Rattle.places.proofs.choose.fit.Statement.{statement}
 use Rattle.places.proofs.choose.fit.Tie as tie

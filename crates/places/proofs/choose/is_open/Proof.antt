@@ -1,7 +1,7 @@
 -- The room that is tested is the placement's own, so it is as small as that one.
 -- Where it is clear, its size decides.
 use mathlib.Core.Path.{sym, ap, subst, _∙_}
-use Rattle.records.specs.Pick.{pick-yes, pick-no}
+use Rattle.fields.specs.Pick.{pick-yes, pick-no}
 use Rattle.places.specs.Memory.{clearRoom}
 use Rattle.places.specs.Legal.{Small}
 use borrow.Author.Needs.{needs}

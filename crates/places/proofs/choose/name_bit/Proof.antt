@@ -4,7 +4,7 @@ use mathlib.Core.Path.{_≡_, sym, ap, subst, _∙_}
 use mathlib.Core.Bool.{Bool, true, false}
 use Prim.Native.Nat.{ℕ}
 use native.Mathlib.Omega.{arith}
-use Rattle.records.specs.Pick.{pick-yes, pick-no}
+use Rattle.fields.specs.Pick.{pick-yes, pick-no}
 use Rattle.storages.specs.declared.Placement.the-variants.{ShadowStackBit, WorkRamBit}
 use Rattle.storages.specs.declared.Storage.{Storage}
 use Rattle.storages.specs.Storage.{shadow, allows}

@@ -2,7 +2,7 @@
 -- For a Carry the answer for the region decides.
 use mathlib.Core.Path.{sym, _∙_}
 use borrow.Author.Tests.{eq-eqb, ne-eqb}
-use Rattle.records.specs.Pick.{pick-yes, pick-no}
+use Rattle.fields.specs.Pick.{pick-yes, pick-no}
 use borrow.Author.Needs.{needs}
 use Rattle.places.proofs.choose.sits_in_flag.Statement.{statement}
 use Rattle.places.proofs.choose.sits_in_flag.Tie as tie

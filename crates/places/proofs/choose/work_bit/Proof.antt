@@ -2,7 +2,7 @@
 -- What it finds lies before the map's end, so below 512.
 use mathlib.Core.Path.{sym, ap, _∙_}
 use native.Mathlib.Omega.{arith}
-use Rattle.records.specs.Pick.{pick-yes, pick-no}
+use Rattle.fields.specs.Pick.{pick-yes, pick-no}
 use Rattle.places.specs.Place.{nameBit, workBit}
 use Rattle.places.proofs.Choosing.{bit-below}
 use borrow.Author.Needs.{needs}

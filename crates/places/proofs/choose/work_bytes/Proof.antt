@@ -2,7 +2,7 @@
 -- A found window begins before the map's end, so below 512.
 use mathlib.Core.Path.{sym, ap, _∙_}
 use native.Mathlib.Omega.{arith}
-use Rattle.records.specs.Pick.{pick-yes, pick-no}
+use Rattle.fields.specs.Pick.{pick-yes, pick-no}
 use Rattle.places.specs.Place.{nameBytes, workBytes}
 use Rattle.places.proofs.Choosing.{found-below}
 use borrow.Author.Needs.{needs}

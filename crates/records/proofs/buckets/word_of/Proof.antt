@@ -2,7 +2,7 @@
 -- Assumes nothing.
 use mathlib.Core.Path.{refl}
 use borrow.Author.Needs.{needs}
-use Rattle.records.specs.Record.{wordOf}
+use Rattle.fields.specs.Record.{wordOf}
 use Rattle.records.proofs.buckets.word_of.Statement.{statement}
 use Rattle.records.proofs.buckets.word_of.Tie as tie
 

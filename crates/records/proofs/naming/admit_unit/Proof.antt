@@ -2,7 +2,7 @@
 -- The row of ids answers whether it is declared, as the list of the state does.
 use mathlib.Core.Path.{sym, _∙_}
 use borrow.Author.Tests.{ltb-true}
-use Rattle.records.proofs.Front.{and-both}
+use Rattle.fields.proofs.Front.{and-both}
 use Rattle.records.proofs.Held.{declared-is}
 use Rattle.records.proofs.Comings.{unit-undeclared, unit-declared}
 use borrow.Author.Needs.{needs}

@@ -1,6 +1,6 @@
 -- An id of 256 or more is past the row, and a lower one is looked up in it.
 -- So the answer is the two tests together.
-use Rattle.records.specs.Pick.{tests}
+use Rattle.fields.specs.Pick.{tests}
 use borrow.Author.Needs.{needs}
 use Rattle.records.proofs.naming.declared.Statement.{statement}
 use Rattle.records.proofs.naming.declared.Tie as tie

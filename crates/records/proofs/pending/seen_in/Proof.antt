@@ -1,6 +1,6 @@
 -- `pending::seen_in` meets its contract: each branch decides the test of the choice.
 -- Assumes nothing.
-use Rattle.records.specs.Pick.{tests}
+use Rattle.fields.specs.Pick.{tests}
 use Rattle.records.proofs.pending.seen_in.Statement.{statement}
 use Rattle.records.proofs.pending.seen_in.Tie as tie
 

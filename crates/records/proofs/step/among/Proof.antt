@@ -5,7 +5,7 @@ use mathlib.Core.Logic.{⊎-elim}
 use Prim.Native.Nat.{ℕ, _≤_, _<_, _-_}
 use native.Mathlib.Omega.{arith}
 use lib.ListN.{length, take}
-use Rattle.records.specs.Pick.{has}
+use Rattle.fields.specs.Pick.{has}
 use Rattle.records.proofs.Lists.{look-hit, look-miss}
 use borrow.Author.Needs.{needs}
 use Rattle.records.proofs.step.among.Statement.{statement}

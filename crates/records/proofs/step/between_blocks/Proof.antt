@@ -1,6 +1,6 @@
 -- The two stages are asked one after the other.
 -- So the answer is that one of the two tests holds.
-use Rattle.records.specs.Pick.{tests}
+use Rattle.fields.specs.Pick.{tests}
 use Rattle.records.proofs.step.between_blocks.Statement.{statement}
 use Rattle.records.proofs.step.between_blocks.Tie as tie
 

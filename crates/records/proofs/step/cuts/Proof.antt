@@ -2,7 +2,7 @@
 -- So the answer is the two tests together.
 use mathlib.Core.Path.{sym, _∙_}
 use native.Mathlib.Omega.{arith}
-use Rattle.records.specs.Pick.{pick-yes, pick-no}
+use Rattle.fields.specs.Pick.{pick-yes, pick-no}
 use Rattle.records.proofs.TenKinds.{leaves-function, leaves-block, leaves-end, leaves-not}
 use Rattle.records.proofs.step.cuts.Statement.{statement}
 use Rattle.records.proofs.step.cuts.Tie as tie

@@ -1,6 +1,6 @@
 -- The first stage is asked here, and the other two by `between_blocks`.
 -- So the answer is that one of the three tests holds.
-use Rattle.records.specs.Pick.{tests}
+use Rattle.fields.specs.Pick.{tests}
 use borrow.Author.Needs.{needs}
 use Rattle.records.proofs.step.function_follows.Statement.{statement}
 use Rattle.records.proofs.step.function_follows.Tie as tie

@@ -1,7 +1,7 @@
 -- An ABI record stands among a function's, its numbers are in range, and its unit is admitted.
 -- Each other way out is the refusal of that test.
 use mathlib.Core.Path.{sym, _∙_}
-use Rattle.records.specs.Record.{abi, abiIn, u8At}
+use Rattle.fields.specs.Record.{abi, abiIn, u8At}
 use Rattle.records.specs.Step.{admit}
 use Rattle.records.proofs.Held.{stage-is, stage-not}
 use Rattle.records.proofs.Comings.{comes-order, comes-range, comes-admit, unit-as}

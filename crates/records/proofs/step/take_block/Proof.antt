@@ -4,7 +4,7 @@ use mathlib.Core.Path.{refl}
 use Prim.Native.Nat.{_≤_, _<_}
 use lib.ListN.{length}
 use native.Mathlib.Omega.{arith}
-use Rattle.records.specs.Record.{block, u16At}
+use Rattle.fields.specs.Record.{block, u16At}
 use Rattle.records.proofs.Lists.{front-answer}
 use Rattle.records.proofs.Held.{stage-between, blocks-of, holds-block}
 use Rattle.records.proofs.Comings.{comes-order, comes-admit, block-again, block-limit, block-next}

@@ -1,7 +1,7 @@
 -- The end follows a function's ABI or a block that has its terminator; then nothing is open, and no list changes.
 -- Elsewhere the record is refused.
 use mathlib.Core.Path.{refl, ap}
-use Rattle.records.specs.Record.{end}
+use Rattle.fields.specs.Record.{end}
 use Rattle.records.specs.Step.{nothing, admit}
 use Rattle.records.specs.declared.reader.Taken.the-variants.{Next}
 use Rattle.records.proofs.Held.{stage-between, holds-opened}

@@ -1,12 +1,11 @@
--- A function follows the storages or a function, its number is new and there is room for it; then its number joins the row of functions.
+-- A function follows the storages or a function, its number is new and there is room for it; then it is entered in the table of functions.
 -- Each other way out is the refusal of that test.
 use mathlib.Core.Path.{refl}
 use Prim.Native.Nat.{_≤_, _<_}
 use lib.ListN.{length}
 use native.Mathlib.Omega.{arith}
-use Rattle.records.specs.Record.{function, u8At}
-use Rattle.records.proofs.Lists.{row-word, row-answer}
-use Rattle.records.proofs.Held.{stage-follows, functions-of, holds-function}
+use Rattle.fields.specs.Record.{function, u8At}
+use Rattle.records.proofs.Held.{stage-follows, functions-of, entry-answer, enters-new}
 use Rattle.records.proofs.Comings.{comes-order, comes-admit, function-again, function-limit, function-next}
 use borrow.Author.Needs.{needs}
 use Rattle.records.proofs.step.take_function.Statement.{statement}
@@ -21,8 +20,8 @@ shared-slice-read-number c = search needs
 cast-number : tie.Need-cast-number
 cast-number c = omega (arith, c .shared-slice-known2 .given 1)
 
-has-requires : tie.Need-has-requires
-has-requires c κs = row-word _ _ (c .before .shared-slice-known2 .given 1 .fits) (c .before .before .before .before .before .before .pre .1)
+is-listed-requires : tie.Need-is-listed-requires
+is-listed-requires c κs = omega (arith, c .before .shared-slice-known2 .given 1 .fits, c .before .before .before .before .before .before .pre .1)
 
 same-length : tie.Need-same-length
 same-length c = search needs
@@ -36,7 +35,7 @@ returns c =
     let k5 = k4 .before in
     let start = k5 .before .before .before in
     comes-admit s _ (function (u8At (start .args .tail .now) 1)) _ _ (stage-follows _ s e _ _ (k5 .function-follows .ensures) (k4 .if1 .taken)) refl
-    (function-again s _ _ _ (row-answer _ (s .functions) (h .functionRow) _ _ _ _ refl (k3 .shared-slice-known2 .given 1 .fits) (c .before .has .ensures) (c .if2 .taken)))
+    (function-again s _ _ _ (entry-answer s is _ bs ws hs ns ks h _ _ _ _ refl (k3 .shared-slice-known2 .given 1 .fits) (c .before .is-listed .ensures) (c .if2 .taken)))
 
 same-length-2 : tie.Need-same-length-2
 same-length-2 c = search needs
@@ -52,13 +51,13 @@ returns-2 c =
     let start = k7 .before .before .before in
     let full : 64 ≤ length (s .functions) = omega (arith, functions-of _ s e, c .if3 .taken) in
     comes-admit s _ (function (u8At (start .args .tail .now) 1)) _ _ (stage-follows _ s e _ _ (k7 .function-follows .ensures) (k6 .if1 .taken)) refl
-    (function-limit s _ _ _ (row-answer _ (s .functions) (h .functionRow) _ _ _ _ refl (k5 .shared-slice-known2 .given 1 .fits) (k3 .has .ensures) (c .before .before .if2 .left)) full)
+    (function-limit s _ _ _ (entry-answer s is _ bs ws hs ns ks h _ _ _ _ refl (k5 .shared-slice-known2 .given 1 .fits) (k3 .is-listed .ensures) (c .before .before .if2 .left)) full)
 
-insert-requires : tie.Need-insert-requires
-insert-requires c κs =
+enter-requires : tie.Need-enter-requires
+enter-requires c κs =
     let k6 = c .before .before .before .before .before .before in
     let start = k6 .before .before .before .before .before in
-    row-word _ _ (k6 .shared-slice-known2 .given 1 .fits) (start .pre .1)
+    (start .pre .1, k6 .shared-slice-known2 .given 1 .fits, start .pre .2, start .pre .3)
 
 after-function-requires : tie.Need-after-function-requires
 after-function-requires c κs = search needs
@@ -80,8 +79,8 @@ returns-3 c =
     let start = k12 .before .before .before in
     let few : length (s .functions) < 64 = omega (arith, functions-of _ s e, k5 .if3 .left) in
     comes-admit s _ (function (u8At (start .args .tail .now) 1)) _ _ (stage-follows _ s e _ _ (k12 .function-follows .ensures) (k11 .if1 .taken)) refl
-    (function-next s _ _ _ _ (row-answer _ (s .functions) (h .functionRow) _ _ _ _ refl (k10 .shared-slice-known2 .given 1 .fits) (k8 .has .ensures) (k7 .if2 .left)) few
-    (c .after-function .ensures s _ e) (holds-function s is _ bs ws hs ns ks h _ _ (k10 .shared-slice-known2 .given 1 .fits) (k3 .insert .ensures)))
+    (function-next s _ _ _ _ (entry-answer s is _ bs ws hs ns ks h _ _ _ _ refl (k10 .shared-slice-known2 .given 1 .fits) (k8 .is-listed .ensures) (k7 .if2 .left)) few
+    (c .after-function .ensures s _ e) (enters-new s is _ bs ws hs ns ks h _ _ _ _ _ (k10 .shared-slice-known2 .given 1 .fits) (start .pre .2) (k8 .is-listed .ensures) (k7 .if2 .left) (k3 .enter .ensures)))
 
 returns-4 : tie.Need-returns-4
 returns-4 c = λ s is bs ws hs ns ks e h. comes-order s _ (function (u8At _ 1)) _ (stage-follows _ s e _ _ (c .before .function-follows .ensures) (c .if1 .left))
@@ -93,12 +92,12 @@ take-function-spec =
     function-follows-requires
     shared-slice-read-number
     cast-number
-    has-requires
+    is-listed-requires
     same-length
     returns
     same-length-2
     returns-2
-    insert-requires
+    enter-requires
     after-function-requires
     same-length-3
     returns-3

@@ -2,7 +2,7 @@
 -- Each other way out is the refusal of that test.
 use mathlib.Core.Path.{sym, ap, _∙_}
 use borrow.Author.Needs.{needs}
-use Rattle.records.specs.Record.{headerAt}
+use Rattle.fields.specs.Record.{headerAt}
 use Rattle.records.specs.Step.{admit}
 use Rattle.records.specs.declared.reader.Taken.the-variants.{Next}
 use Rattle.records.proofs.Held.{stage-is, stage-not, reader-header, holds-header}

@@ -1,11 +1,11 @@
 -- An instruction stands in a block and its numbers are in range; then it is open with its fields, and no list changes.
 -- Each other way out is the refusal of that test.
 use mathlib.Core.Path.{sym, ap, _∙_}
-use Rattle.records.specs.Fields.{fieldsOf}
-use Rattle.records.specs.Record.{instructionAt, u8At}
+use Rattle.fields.specs.Fields.{fieldsOf}
+use Rattle.fields.specs.Record.{instructionAt, u8At}
 use Rattle.records.specs.Step.{opened, admit}
 use Rattle.records.specs.declared.reader.Taken.the-variants.{Next}
-use Rattle.records.proofs.TableLaws.{fields-short}
+use Rattle.fields.proofs.TableLaws.{fields-short}
 use Rattle.records.proofs.Held.{stage-is, stage-not, holds-opened}
 use Rattle.records.proofs.Comings.{comes-order, comes-range, comes-admit}
 use borrow.Author.Needs.{needs}

@@ -3,7 +3,7 @@
 use mathlib.Core.Path.{_≡_, sym, _∙_}
 use mathlib.Core.Bool.{true}
 use native.Mathlib.Omega.{arith}
-use Rattle.records.specs.Record.{operand, operandIn, u8At}
+use Rattle.fields.specs.Record.{operand, operandIn, u8At}
 use Rattle.records.specs.Step.{withGiven, operandFits}
 use Rattle.records.proofs.Counts.{field-late, field-inside}
 use Rattle.records.proofs.Held.{now-of, targets-is, targets-not, reader-kept, holds-opened}

@@ -1,7 +1,7 @@
 -- A storage stands among the storages, its numbers are in range and its id is new; then its id joins the row of ids.
 -- Each other way out is the refusal of that test.
 use mathlib.Core.Path.{sym, _∙_}
-use Rattle.records.specs.Record.{storage, storageIn}
+use Rattle.fields.specs.Record.{storage, storageIn}
 use Rattle.records.proofs.Lists.{row-word, row-answer}
 use Rattle.records.proofs.Held.{stage-is, stage-not, id-low, reader-storage, holds-storage}
 use Rattle.records.proofs.Comings.{comes-order, comes-range, comes-admit, storage-again, storage-next}

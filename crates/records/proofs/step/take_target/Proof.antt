@@ -1,7 +1,7 @@
 -- A target goes to what is open while that takes one more; then it has one more, and no list changes.
 -- Where it takes no more, the record is refused.
 use mathlib.Core.Path.{refl, ap}
-use Rattle.records.specs.Record.{target}
+use Rattle.fields.specs.Record.{target}
 use Rattle.records.specs.Step.{withTarget, admit}
 use Rattle.records.specs.declared.reader.Taken.the-variants.{Next}
 use Rattle.records.proofs.Held.{now-of, targets-more, targets-full, reader-kept, holds-opened}

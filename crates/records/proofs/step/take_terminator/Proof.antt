@@ -1,11 +1,11 @@
 -- A terminator stands in a block and its numbers are in range; then it is open with its fields and targets, and no list changes.
 -- Each other way out is the refusal of that test.
 use mathlib.Core.Path.{sym, ap, _∙_}
-use Rattle.records.specs.Fields.{endFieldsOf, leastTargets, mostTargets}
-use Rattle.records.specs.Record.{terminatorAt, u8At}
+use Rattle.fields.specs.Fields.{endFieldsOf, leastTargets, mostTargets}
+use Rattle.fields.specs.Record.{terminatorAt, u8At}
 use Rattle.records.specs.Step.{opened, admit}
 use Rattle.records.specs.declared.reader.Taken.the-variants.{Next}
-use Rattle.records.proofs.TableLaws.{end-fields-short}
+use Rattle.fields.proofs.TableLaws.{end-fields-short}
 use Rattle.records.proofs.Held.{stage-is, stage-not, opened-as, holds-opened}
 use Rattle.records.proofs.Comings.{comes-order, comes-range, comes-admit}
 use borrow.Author.Needs.{needs}

@@ -8,7 +8,7 @@ use lib.Dec.{ltb}
 use borrow.Author.Needs.{needs}
 use borrow.Author.Tests.{lt-ltb, le-ltb}
 use Rattle.rows.specs.Row.{memberAt, withAt}
-use Rattle.records.specs.Pick.{pick, pick-yes, pick-no, _and_}
+use Rattle.fields.specs.Pick.{pick, pick-yes, pick-no, _and_}
 use Rattle.turns.proofs.Marking.{row-past, row-kept, row-changed, put-length}
 use Rattle.turns.proofs.marks.mark_one.Statement.{statement}
 use Rattle.turns.proofs.marks.mark_one.Tie as tie

@@ -63,14 +63,14 @@ slice-aggregate-any-marked-2 c = search needs
 any-marked-requires-2 : tie.Need-any-marked-requires-2
 any-marked-requires-2 c κs = search needs
 
-slice-aggregate-walk-of : tie.Need-slice-aggregate-walk-of
-slice-aggregate-walk-of c = search needs
+slice-aggregate-search : tie.Need-slice-aggregate-search
+slice-aggregate-search c = search needs
 
-slice-aggregate-walk-of-2 : tie.Need-slice-aggregate-walk-of-2
-slice-aggregate-walk-of-2 c = search needs
+slice-aggregate-search-2 : tie.Need-slice-aggregate-search-2
+slice-aggregate-search-2 c = search needs
 
-walk-of-requires : tie.Need-walk-of-requires
-walk-of-requires c κs = let p = c .before .before .before .before .before .before .before .before .before .before .before .before .before .before .before .before .before .before .before .before .before .before .before .before .before .before .before .pre in (p .0, search needs, search needs)
+search-requires : tie.Need-search-requires
+search-requires c κs = let p = c .before .before .before .before .before .before .before .before .before .before .before .before .before .before .before .before .before .before .before .before .before .before .before .before .before .before .before .pre in (p .0, search needs, search needs)
 
 returns-3 : tie.Need-returns-3
 returns-3 c =
@@ -81,17 +81,17 @@ returns-3 c =
     let start = e .before .before .before .before .before .before .before in
     let shares = sym (e .before .tries-slots .ensures) ∙ not-false _ (e .if1 .left) in
     λ g x t k.
-    seek-copied g _ x _ _ _ _ _ _ _ _ t k _ _ _ _ (m .mark .ensures) (l .less-from .ensures) (start .pre .1) (start .pre .0) _ shares (f .walk-of .ensures)
+    seek-copied g _ x _ _ _ _ _ _ _ _ t k _ _ _ _ (m .mark .ensures) (l .less-from .ensures) (start .pre .1) (start .pre .0) _ shares (f .search .ensures)
     (c .if4 .taken)
 
-slice-aggregate-walk-of-3 : tie.Need-slice-aggregate-walk-of-3
-slice-aggregate-walk-of-3 c = search needs
+slice-aggregate-search-3 : tie.Need-slice-aggregate-search-3
+slice-aggregate-search-3 c = search needs
 
-slice-aggregate-walk-of-4 : tie.Need-slice-aggregate-walk-of-4
-slice-aggregate-walk-of-4 c = search needs
+slice-aggregate-search-4 : tie.Need-slice-aggregate-search-4
+slice-aggregate-search-4 c = search needs
 
-walk-of-requires-2 : tie.Need-walk-of-requires-2
-walk-of-requires-2 c κs = let p = c .before .before .before .before .before .before .before .before .before .before .before .before .before .before .before .before .before .before .before .before .before .before .before .before .before .before .before .pre in (p .0, search needs, search needs)
+search-requires-2 : tie.Need-search-requires-2
+search-requires-2 c κs = let p = c .before .before .before .before .before .before .before .before .before .before .before .before .before .before .before .before .before .before .before .before .before .before .before .before .before .before .before .pre in (p .0, search needs, search needs)
 
 returns-4 : tie.Need-returns-4
 returns-4 c =
@@ -104,8 +104,8 @@ returns-4 c =
     let shares = sym (e .before .tries-slots .ensures) ∙ not-false _ (e .if1 .left) in
     λ g x t k.
     let fitting = seek-fitting g _ x _ _ _ _ _ _ _ _ t k _ _ _ _ (m .mark .ensures) (l .less-from .ensures) (start .pre .1) (start .pre .0) in
-    ⊎-elim (λ w. fitting _ shares (w .3 .ensures) (w .4 .left) _ (c .walk-of2 .ensures))
-    (λ w. fitting _ shares (unmarked-none _ _ _ _ _ (sym (a .any-marked2 .ensures) ∙ w .left)) (omega arith) _ (c .walk-of2 .ensures))
+    ⊎-elim (λ w. fitting _ shares (w .3 .ensures) (w .4 .left) _ (c .search2 .ensures))
+    (λ w. fitting _ shares (unmarked-none _ _ _ _ _ (sym (a .any-marked2 .ensures) ∙ w .left)) (omega arith) _ (c .search2 .ensures))
     (o .if3 .came)
 
 pub slot-for-spec : {M : Type 1} → statement M
@@ -127,11 +127,11 @@ slot-for-spec =
     returns-2
     slice-aggregate-any-marked-2
     any-marked-requires-2
-    slice-aggregate-walk-of
-    slice-aggregate-walk-of-2
-    walk-of-requires
+    slice-aggregate-search
+    slice-aggregate-search-2
+    search-requires
     returns-3
-    slice-aggregate-walk-of-3
-    slice-aggregate-walk-of-4
-    walk-of-requires-2
+    slice-aggregate-search-3
+    slice-aggregate-search-4
+    search-requires-2
     returns-4)

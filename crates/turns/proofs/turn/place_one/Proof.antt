@@ -3,7 +3,8 @@
 use mathlib.Core.Path.{_≡_}
 use native.Mathlib.Omega.{arith}
 use lib.ListN.{length}
-use Rattle.slots.proofs.Laws.{mapped-length}
+use Rattle.slots.specs.Slots.{slotsIn}
+use Rattle.slots.proofs.Pages.{full-array, slots-length}
 use Rattle.places.specs.Place.{joinSlot}
 use Rattle.turns.proofs.Noting.{joined-held}
 use Rattle.turns.proofs.Turning.{joins, joins-owner, stands-alone}
@@ -11,8 +12,8 @@ use borrow.Author.Needs.{needs}
 use Rattle.turns.proofs.turn.place_one.Statement.{statement}
 use Rattle.turns.proofs.turn.place_one.Tie as tie
 
-slots-long : (a : tie.Start) → length (a .args .list) ≡ 256
-slots-long a = search (needs, mapped-length)
+slots-long : (a : tie.Start) → length (slotsIn (a .args .list)) ≡ 256
+slots-long a = let long : length (a .args .list) ≡ 16 = search needs in omega (arith, slots-length (a .args .list) (full-array 16 (a .args .list) _ (a .good .0)))
 
 slot-for-requires : tie.Need-slot-for-requires
 slot-for-requires c κs =

@@ -7,7 +7,7 @@ use native.Mathlib.Omega.{arith}
 use lib.ListN.{length}
 use borrow.Author.Needs.{needs}
 use Rattle.rows.specs.Row.{pack}
-use Rattle.records.specs.Pick.{has}
+use Rattle.fields.specs.Pick.{has}
 use Rattle.units.specs.Seek.{storagesBelow}
 use Rattle.units.proofs.Storages.{storages-start, storages-no, storages-yes, storages-end, storage-part, four}
 use Rattle.units.proofs.ask.storages_of.Statement.{statement}

@@ -1,6 +1,6 @@
 -- By cases of the kind byte, as the code asks: kinds 5 and 7 begin a step.
 -- No other kind does.
-use Rattle.records.specs.Pick.{tests}
+use Rattle.fields.specs.Pick.{tests}
 use Rattle.units.proofs.locate.begins_step.Statement.{statement}
 use Rattle.units.proofs.locate.begins_step.Tie as tie
 

@@ -6,7 +6,7 @@ use Prim.Native.Nat.{ℕ, _-_, _*_, _≤_}
 use native.Mathlib.Omega.{arith}
 use lib.ListN.{length}
 use borrow.Author.Needs.{needs}
-use Rattle.records.specs.Edition.{one}
+use Rattle.fields.specs.Edition.{one}
 use Rattle.records.specs.Check.{units, check}
 use Rattle.records.proofs.Reading.{at-most}
 use Rattle.units.proofs.Finding.{Going, going-start, going-no-kind, going-no-body, going-away, going-here, going-on, going-into, going-end, step-kind, no-step-kind, brought-room, step-room}

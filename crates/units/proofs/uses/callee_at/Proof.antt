@@ -1,4 +1,4 @@
--- The two entries are those of the contract, and a sane table has them in proportion.
+-- The two entries are those of the definition, and a sane table has them in proportion.
 -- An entry fits sixteen bits, so it fits a place.
 use mathlib.Core.Path.{refl}
 use Prim.Native.Nat.{_+_}
@@ -29,7 +29,7 @@ cast-t12 : tie.Need-cast-t12
 cast-t12 c = omega (arith, c .shared-slice-known2 .given (256 + c .before .before .args .n))
 
 returns : tie.Need-returns
-returns c = (refl, refl, c .before .before .pre .sound (c .before .before .args .n) (omega arith))
+returns c = (refl, c .before .before .pre .sound (c .before .before .args .n) (omega arith))
 
 pub callee-at-spec : {M : Type 1} → statement M
 callee-at-spec =

@@ -1,6 +1,6 @@
 -- A terminator writes no field.
 -- Else the byte is the one that the definition takes out of the row's word.
-use Rattle.records.specs.Pick.{tests, pick-no}
+use Rattle.fields.specs.Pick.{tests, pick-no}
 use mathlib.Core.Path.{sym}
 use Rattle.units.specs.Marks.{writtenIn}
 use borrow.Author.Needs.{needs}

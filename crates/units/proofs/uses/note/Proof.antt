@@ -1,6 +1,6 @@
 -- By cases, as the definition goes: what is wanted and is a unit's number is put in.
 -- In every other case the row stays.
-use Rattle.records.specs.Pick.{tests}
+use Rattle.fields.specs.Pick.{tests}
 use Rattle.units.specs.Marks.{jotted}
 use borrow.Author.Needs.{needs}
 use Rattle.units.proofs.uses.note.Statement.{statement}

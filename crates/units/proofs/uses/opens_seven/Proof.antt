@@ -3,8 +3,8 @@
 use mathlib.Core.Path.{sym}
 use borrow.Author.Needs.{needs}
 use borrow.Author.Tests.{lt-leb, le-leb}
-use Rattle.records.specs.Pick.{pick-yes, pick-no}
-use Rattle.records.specs.Record.{u8At}
+use Rattle.fields.specs.Pick.{pick-yes, pick-no}
+use Rattle.fields.specs.Record.{u8At}
 use Rattle.units.specs.Marks.{opensSeven}
 use Rattle.units.proofs.uses.opens_seven.Statement.{statement}
 use Rattle.units.proofs.uses.opens_seven.Tie as tie

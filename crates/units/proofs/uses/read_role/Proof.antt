@@ -1,6 +1,6 @@
 -- By cases, as the definition goes.
 -- Only Return wants results.
-use Rattle.records.specs.Pick.{tests}
+use Rattle.fields.specs.Pick.{tests}
 use Rattle.units.specs.Marks.{readRole}
 use Rattle.units.proofs.uses.read_role.Statement.{statement}
 use Rattle.units.proofs.uses.read_role.Tie as tie

@@ -1,6 +1,6 @@
 -- By cases, as the definition goes.
 -- Each way out answers the cursor that the definition names there.
-use Rattle.records.specs.Pick.{tests}
+use Rattle.fields.specs.Pick.{tests}
 use Rattle.units.specs.Marks.{readSource}
 use Rattle.units.proofs.uses.read_source.Statement.{statement}
 use Rattle.units.proofs.uses.read_source.Tie as tie
@@ -17,13 +17,5 @@ returns-3 : tie.Need-returns-3
 unfolding readSource
 returns-3 c = search tests
 
-returns-4 : tie.Need-returns-4
-unfolding readSource
-returns-4 c = search tests
-
-returns-5 : tie.Need-returns-5
-unfolding readSource
-returns-5 c = search tests
-
 pub read-source-spec : {M : Type 1} → statement M
-read-source-spec = tie.close (tie.spec returns returns-2 returns-3 returns-4 returns-5)
+read-source-spec = tie.close (tie.spec returns returns-2 returns-3)

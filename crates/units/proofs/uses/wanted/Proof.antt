@@ -1,6 +1,6 @@
 -- By cases, as the definition goes: the first test that is met decides which role is wanted.
 -- The role itself is then compared as the definition compares it.
-use Rattle.records.specs.Pick.{tests}
+use Rattle.fields.specs.Pick.{tests}
 use Rattle.units.specs.Marks.{wantedBy}
 use Rattle.units.proofs.uses.wanted.Statement.{statement}
 use Rattle.units.proofs.uses.wanted.Tie as tie

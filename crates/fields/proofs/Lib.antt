@@ -1,0 +1,4 @@
+pub mod Cases
+pub mod Front
+pub mod ByKind
+pub mod TableLaws

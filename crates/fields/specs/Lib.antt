@@ -1,0 +1,5 @@
+pub mod Pick
+pub mod Edition
+pub mod Fields
+pub mod Record
+pub mod Table
