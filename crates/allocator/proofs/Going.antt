@@ -31,6 +31,7 @@ use Rattle.places.specs.Place.{Given, State, Outcome, done, refused, step, plac
 use Rattle.turns.specs.Held.{Tells, Held, listAfter, countAfter, TurnedBy}
 use Rattle.allocator.specs.All.{Allocates, Fit}
 use Rattle.turns.proofs.Turns.{place-next, place-refused}
+use Rattle.turns.proofs.Linking.{linked-none}
 use Rattle.allocator.proofs.Fitting.{fits-small}
 
 -- Nothing is placed yet in these maps.
@@ -45,12 +46,12 @@ told-tells : (graph copies : List ℕ) (hi : ℕ) → Tells (told graph copies h
 told-tells graph copies hi = record { meeting = λ i j a b. refl; copying = λ i j a b. refl }
 
 -- The loop's invariant: the arrays and the pages of slots keep their lengths, every record ahead fits and there is an entry for it, and placing comes to the same from here.
-pub record Going (file graph copies app₀ wrk₀ app wrk : List ℕ) (list : List Page) (n : ℕ) (ids owners numbers out : List ℕ) (at i : ℕ) : Type 0 where
+pub record Going (file graph copies app₀ wrk₀ app wrk : List ℕ) (list : List Page) (n : ℕ) (ids kin numbers out : List ℕ) (at i : ℕ) : Type 0 where
   pub inside : at ≤ length file
   pub app-long : length app ≡ length app₀
   pub wrk-long : length wrk ≡ length wrk₀
   pub ids-long : length ids ≡ 256
-  pub owners-long : length owners ≡ 256
+  pub kin-long : length kin ≡ 512
   pub numbers-long : length numbers ≡ 256
   pub out-long : length out ≡ 2048
   pub pages : length list ≡ 16
@@ -60,7 +61,7 @@ pub record Going (file graph copies app₀ wrk₀ app wrk : List ℕ) (list : Li
   pub fits : All (λ x. R.storageFits one x ≡ true) (storagesBy fuel (drop at file))
   pub few : i + length (storagesBy fuel (drop at file)) ≤ 256
   pub held : (g : Given) → Tells g graph copies → g .lo ≡ 0 → g .hi ≡ length app₀
-      → (x : State) × Held x app wrk (slotsIn list) n ids owners numbers out i
+      → (x : State) × Held x app wrk (slotsIn list) n ids kin numbers out i
       × (placeFrom g (map stored (storagesBy fuel (drop at file))) x ≡ placeFrom g (map stored (declared file)) (begun app₀ wrk₀))
 
 -- ---- The start
@@ -69,10 +70,10 @@ pub clear-long : (out : List ℕ) → out ≡ laid 2048 [] [] → length out ≡
 unfolding laid
 clear-long out e = ap length e
 
-module _ (file graph copies app wrk : List ℕ) (list : List Page) (ids owners numbers out : List ℕ) where
-  begun-held : out ≡ laid 2048 [] [] → Held (begun app wrk) app wrk (slotsIn list) 0 ids owners numbers out 0
+module _ (file graph copies app wrk : List ℕ) (list : List Page) (ids kin numbers out : List ℕ) where
+  begun-held : kin ≡ replicate 512 0 → out ≡ laid 2048 [] [] → Held (begun app wrk) app wrk (slotsIn list) 0 ids kin numbers out 0
   unfolding recordsOf
-  begun-held e = record {
+  begun-held clear e = record {
     app-is = refl;
     wrk-is = refl;
     kept = record {
@@ -80,7 +81,7 @@ module _ (file graph copies app wrk : List ℕ) (list : List Page) (ids owners n
       slots-are = refl;
       count = refl;
       ids-are = refl;
-      owners-are = refl;
+      linked = linked-none kin clear;
       numbers-are = refl;
       numbered = record { members = λ j l. absurd (not-suc-le-zero l); filled = λ j l. absurd (not-suc-le-zero l); numbers = tt };
       owned = tt;
@@ -90,15 +91,15 @@ module _ (file graph copies app wrk : List ℕ) (list : List Page) (ids owners n
     out-is = e;
   }
 
-  pub going-start : 7 ≤ length file → Fit file → length ids ≡ 256 → length owners ≡ 256 → length numbers ≡ 256 → out ≡ laid 2048 [] [] → list ≡ replicate 16 noPage
-      → Going file graph copies app wrk app wrk list 0 ids owners numbers out 7 0
+  pub going-start : 7 ≤ length file → Fit file → length ids ≡ 256 → kin ≡ replicate 512 0 → length numbers ≡ 256 → out ≡ laid 2048 [] [] → list ≡ replicate 16 noPage
+      → Going file graph copies app wrk app wrk list 0 ids kin numbers out 7 0
   unfolding declared
-  going-start h fit li lw ln e none = record {
+  going-start h fit li clear ln e none = record {
     inside = h;
     app-long = refl;
     wrk-long = refl;
     ids-long = li;
-    owners-long = lw;
+    kin-long = ap length clear;
     numbers-long = ln;
     out-long = clear-long out e;
     pages = ap length none;
@@ -107,7 +108,7 @@ module _ (file graph copies app wrk : List ℕ) (list : List Page) (ids owners n
     enough = omega arith;
     fits = fit .each;
     few = omega (arith, fit .most);
-    held = λ g t lo hi. (begun app wrk, begun-held e, refl);
+    held = λ g t lo hi. (begun app wrk, begun-held clear e, refl);
   }
 
 -- ---- The slots after a turn
@@ -155,10 +156,10 @@ front-cons file at zero h e o = absurd (omega (arith, opens-inside file at h o))
 front-cons file at (suc k) h e o =
     (k, omega arith, pick-yes (opensStorage (drop at file)) _ _ o ∙ ap (λ (t : List ℕ). R.storageIn (drop at file) ∷ storagesBy k t) (drop-drop 16 at file))
 
-module _ {file graph copies app₀ wrk₀ app wrk : List ℕ} {list : List Page} {n : ℕ} {ids owners numbers out : List ℕ} {at i : ℕ}
-    (s : Going file graph copies app₀ wrk₀ app wrk list n ids owners numbers out at i) where
+module _ {file graph copies app₀ wrk₀ app wrk : List ℕ} {list : List Page} {n : ℕ} {ids kin numbers out : List ℕ} {at i : ℕ}
+    (s : Going file graph copies app₀ wrk₀ app wrk list n ids kin numbers out at i) where
   -- The words stand for a state, since they tell what is given themselves.
-  pub going-held : (x : State) × Held x app wrk (slotsIn list) n ids owners numbers out i
+  pub going-held : (x : State) × Held x app wrk (slotsIn list) n ids kin numbers out i
   going-held = let h = s .held (told graph copies (length app₀)) (told-tells graph copies (length app₀)) refl refl in (h .0, h .1)
 
   module _ (t : List ℕ) (z : Storage) (et : t ≡ drop at file) (ez : z ≡ stored (R.storageIn t)) (o : opensStorage (drop at file) ≡ true) where
@@ -177,31 +178,31 @@ module _ {file graph copies app₀ wrk₀ app wrk : List ℕ} {list : List Page}
     pub front-few : n < 256
     front-few = omega (arith, front-fits .0, going-held .1 .kept .few)
 
-    module _ (v : Verdict) (app′ wrk′ ids′ owners′ numbers′ out′ : List ℕ)
-        (turn : (g : Given) (x : State) → Tells g graph copies → g .lo ≡ 0 → g .hi ≡ length app → Held x app wrk (slotsIn list) n ids owners numbers out i
-        → TurnedBy (step g z x) v app′ wrk′ (listAfter (slotsIn list) n z v) (countAfter n v) ids′ owners′ numbers′ out′ (i + 1)) where
+    module _ (v : Verdict) (app′ wrk′ ids′ kin′ numbers′ out′ : List ℕ)
+        (turn : (g : Given) (x : State) → Tells g graph copies → g .lo ≡ 0 → g .hi ≡ length app → Held x app wrk (slotsIn list) n ids kin numbers out i
+        → TurnedBy (step g z x) v app′ wrk′ (listAfter (slotsIn list) n z v) (countAfter n v) ids′ kin′ numbers′ out′ (i + 1)) where
       pub going-refused : (r : Refusal) → v ≡ Refused r → (g : Given) → Tells g graph copies → g .lo ≡ 0 → g .hi ≡ length app₀
           → placeFrom g (map stored (declared file)) (begun app₀ wrk₀) ≡ refused r
       going-refused r e g t lo hi =
           let k = front-cons file at (s .fuel) (s .inside) (s .enough) o in
           let h = s .held g t lo hi in
-          let q = subst (λ (u : Verdict). TurnedBy (step g z (h .0)) u app′ wrk′ (listAfter (slotsIn list) n z u) (countAfter n u) ids′ owners′ numbers′ out′ (i + 1)) e (turn g (h .0) t lo (hi ∙ sym (s .app-long)) (h .1)) in
+          let q = subst (λ (u : Verdict). TurnedBy (step g z (h .0)) u app′ wrk′ (listAfter (slotsIn list) n z u) (countAfter n u) ids′ kin′ numbers′ out′ (i + 1)) e (turn g (h .0) t lo (hi ∙ sym (s .app-long)) (h .1)) in
           sym (h .2) ∙ ap (λ (ss : List R.Storage). placeFrom g (map stored ss) (h .0)) (k .2)
           ∙ place-refused g (stored (R.storageIn (drop at file))) _ (h .0) r (ap (λ (y : Storage). step g y (h .0)) (sym front-is) ∙ q)
 
       -- A storage that was placed leaves a state, and the slots that follow stand for that state's.
-      leaves : (list′ : List Page) (n′ : ℕ) → Follows list n z v list′ n′ → (u : Outcome) → TurnedBy u v app′ wrk′ (listAfter (slotsIn list) n z v) (countAfter n v) ids′ owners′ numbers′ out′ (i + 1)
-          → (y : State) × (u ≡ done y) × Held y app′ wrk′ (slotsIn list′) n′ ids′ owners′ numbers′ out′ (i + 1)
+      leaves : (list′ : List Page) (n′ : ℕ) → Follows list n z v list′ n′ → (u : Outcome) → TurnedBy u v app′ wrk′ (listAfter (slotsIn list) n z v) (countAfter n v) ids′ kin′ numbers′ out′ (i + 1)
+          → (y : State) × (u ≡ done y) × Held y app′ wrk′ (slotsIn list′) n′ ids′ kin′ numbers′ out′ (i + 1)
       leaves list′ n′ f u d = go v (f .0) (rw (f .1, f .2) d)
         where
-          go : (w : Verdict) → Went w → TurnedBy u w app′ wrk′ (slotsIn list′) n′ ids′ owners′ numbers′ out′ (i + 1)
-              → (y : State) × (u ≡ done y) × Held y app′ wrk′ (slotsIn list′) n′ ids′ owners′ numbers′ out′ (i + 1)
+          go : (w : Verdict) → Went w → TurnedBy u w app′ wrk′ (slotsIn list′) n′ ids′ kin′ numbers′ out′ (i + 1)
+              → (y : State) × (u ≡ done y) × Held y app′ wrk′ (slotsIn list′) n′ ids′ kin′ numbers′ out′ (i + 1)
           go Placed k e = e
           go (Opened p) k e = e
 
       pub going-on : (list′ : List Page) (n′ : ℕ) → Follows list n z v list′ n′ → length app′ ≡ length app → length wrk′ ≡ length wrk → length ids′ ≡ length ids
-          → length owners′ ≡ length owners → length numbers′ ≡ length numbers → length out′ ≡ length out
-          → Going file graph copies app₀ wrk₀ app′ wrk′ list′ n′ ids′ owners′ numbers′ out′ (at + 16) (i + 1)
+          → length kin′ ≡ length kin → length numbers′ ≡ length numbers → length out′ ≡ length out
+          → Going file graph copies app₀ wrk₀ app′ wrk′ list′ n′ ids′ kin′ numbers′ out′ (at + 16) (i + 1)
       going-on list′ n′ f la lw li lr ln lo =
           let k = front-cons file at (s .fuel) (s .inside) (s .enough) o in
           record {
@@ -209,7 +210,7 @@ module _ {file graph copies app₀ wrk₀ app wrk : List ℕ} {list : List Page}
             app-long = la ∙ s .app-long;
             wrk-long = lw ∙ s .wrk-long;
             ids-long = li ∙ s .ids-long;
-            owners-long = lr ∙ s .owners-long;
+            kin-long = lr ∙ s .kin-long;
             numbers-long = ln ∙ s .numbers-long;
             out-long = lo ∙ s .out-long;
             pages = f .3;

@@ -3,7 +3,7 @@ ghost use mathlib.Core.Path.{_≡_};
 ghost use mathlib.Core.Bool.{true};
 ghost use mathlib.Core.List.{[], map};
 ghost use Prim.Native.Nat.{_≤_};
-ghost use lib.ListN.{length};
+ghost use lib.ListN.{length, replicate};
 ghost use Rattle.fields.specs.Record.{u16At, headerFits};
 ghost use Rattle.records.specs.Outcome.{laid};
 ghost use Rattle.storages.specs.Storage.{stored};
@@ -37,12 +37,12 @@ pub fn place_all(
     app: &mut [u8],
     work: &mut [u8],
     ids: &mut [u16],
-    owners: &mut [u16],
+    kin: &mut [u16],
     numbers: &mut [u16],
     out: &mut [u8],
 ) -> Allocated
     requires { ⌜ (7 ≤ length (now file)) × Fit (now file) × (length (now graph) ≡ 1024) × (length (now copies) ≡ 1024) × (length (now app) ≤ 256) × (length (now work) ≤ 512)
-        × (length (now ids) ≡ 256) × (length (now owners) ≡ 256) × (length (now numbers) ≡ 256) × (now out ≡ laid 2048 [] []) ⌝ }
+        × (length (now ids) ≡ 256) × (now kin ≡ replicate 512 0) × (length (now numbers) ≡ 256) × (now out ≡ laid 2048 [] []) ⌝ }
     ensures { λ r. ⌜ ((g : Given) → Tells g (now (graph .entry)) (now (copies .entry)) → g .lo ≡ 0 → g .hi ≡ length (now (app .entry))
         → Allocates (placeFrom g (map stored (declared (now (file .entry)))) (record { maps = record { app = now (app .entry); wrk = now (work .entry) }; slots = []; placed = [] }))
         r (now (out .exit))) ⌝ }
@@ -62,7 +62,7 @@ pub fn place_all(
             app,
             work,
             ids,
-            owners,
+            kin,
             numbers,
             out,
             i,
@@ -96,7 +96,7 @@ pub fn allocate(file: &[u8], graph: &[u64], copies: &[u64], out: &mut [u8]) -> A
     let mut app = [0u8; 256];
     let mut work = [0u8; 512];
     let mut ids = [0u16; 256];
-    let mut owners = [0u16; 256];
+    let mut kin = [0u16; 512];
     let mut numbers = [0u16; 256];
     let a = u16_at(file, 1) as usize;
     let f = u16_at(file, 3) as usize;
@@ -109,7 +109,7 @@ pub fn allocate(file: &[u8], graph: &[u64], copies: &[u64], out: &mut [u8]) -> A
         &mut app[..a],
         &mut work[..w],
         &mut ids,
-        &mut owners,
+        &mut kin,
         &mut numbers,
         out,
     )

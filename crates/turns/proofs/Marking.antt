@@ -1,20 +1,20 @@
--- The rows of slots while the placed storages are gone through. A storage in slot k changes number k of a row and no other, and only if it has the owner and
--- passes the row's test; so of the first i + 1 storages a row tells what it told of the first i, but for the slot of the next one. A number over 255 is no slot's.
+-- The rows of slots while the links of a remainder are followed. A storage in slot k changes number k of a row and no other, and only if it passes the row's test;
+-- so what a row tells, together with the storages that the links still lead to, stays the same, and at the end it is all. A number over 255 is no slot's.
 use mathlib.Core.Path.{_≡_, refl, sym, ap, _∙_}
 use mathlib.Core.Bool.{Bool, true, false, not}
 use mathlib.Core.List.{List}
-use Prim.Native.Nat.{ℕ, zero, suc, _+_, _*_, _≤_, _<_, min, max}
+use Prim.Native.Nat.{ℕ, zero, suc, _*_, _≤_, _<_, min, max}
 use native.Mathlib.Omega.{arith}
-use native.Mathlib.Numerals.{add-one}
 use lib.Dec.{eqb, ltb}
 use lib.ListN.{length, getD, replicate}
 use lib.Seq.{ext-getD}
-use borrow.Author.Tests.{ltb-true, ltb-false, eqb-true, eqb-false, eq-eqb, ne-eqb}
+use borrow.Author.Tests.{ltb-true, ltb-false, eqb-true, eqb-false, eq-eqb}
 use Rattle.rows.specs.Row.{member, memberAt, with, withAt, sameRow}
 use Rattle.rows.proofs.Rows.{same-refl, same-false}
 use Rattle.rows.proofs.Members.{member-at-zero, with-at-zero, length-with-at, member-with-same, member-with-other, getD-none, member-none}
 use Rattle.fields.specs.Pick.{pick, pick-yes, pick-no, _and_, _or_}
-use Rattle.turns.specs.Held.{anyIn, Marked}
+use Rattle.turns.specs.Held.{lastOf, Linked, anyIn, Marked}
+use Rattle.turns.proofs.Linking.{last-within, last-has}
 
 -- ---- The smaller id first
 
@@ -82,77 +82,133 @@ put-length t r z k e = ap length e ∙ pick-length t (withAt r 0 k) r (length-wi
 pub none-marked : (k : ℕ) → memberAt (replicate 4 0) 0 k ≡ false
 none-marked k = member-at-zero (replicate 4 0) k ∙ member-none 4 k
 
--- One storage more: of the owner, it counts if it is in the slot and passes; of another, it does not count.
-module _ (p : ℕ → Bool) (owner k : ℕ) (ids owners numbers : List ℕ) (n : ℕ) where
-  any-in-own : getD owners n 0 ≡ owner
-      → anyIn p owner k ids owners numbers (suc n) ≡ ((eqb (getD numbers n 0) k and p (getD ids n 0)) or anyIn p owner k ids owners numbers n)
+-- One storage more: of the remainder, it counts if it is in the slot and passes; between the last of the remainder and the end none counts.
+module _ (p : ℕ → Bool) (b k : ℕ) (ids rests numbers : List ℕ) where
+  any-in-own : (n : ℕ) → getD rests n 0 ≡ b
+      → anyIn p b k ids rests numbers (suc n) ≡ ((eqb (getD numbers n 0) k and p (getD ids n 0)) or anyIn p b k ids rests numbers n)
   unfolding anyIn
-  any-in-own e = ap (λ (t : Bool). t or anyIn p owner k ids owners numbers n) (pick-yes (eqb (getD owners n 0) owner) _ false (eq-eqb (getD owners n 0) owner e))
+  any-in-own n e = ap (λ (t : Bool). t or anyIn p b k ids rests numbers n) (pick-yes (eqb (getD rests n 0) b) _ false (eq-eqb (getD rests n 0) b e))
 
-  any-in-other : (getD owners n 0 ≡ owner → ⊥) → anyIn p owner k ids owners numbers (suc n) ≡ anyIn p owner k ids owners numbers n
-  unfolding anyIn pick
-  any-in-other d = ap (λ (t : Bool). t or anyIn p owner k ids owners numbers n) (pick-no (eqb (getD owners n 0) owner) _ false (ne-eqb (getD owners n 0) owner d))
+  any-in-last : (n : ℕ) → anyIn p b k ids rests numbers (lastOf b rests n) ≡ anyIn p b k ids rests numbers n
+  unfolding anyIn lastOf pick
+  any-in-last zero = refl
+  any-in-last (suc n) = go (eqb (getD rests n 0) b) refl (any-in-last n)
+    where
+      go : (t : Bool) → eqb (getD rests n 0) b ≡ t → anyIn p b k ids rests numbers (lastOf b rests n) ≡ anyIn p b k ids rests numbers n
+          → anyIn p b k ids rests numbers (pick t (suc n) (lastOf b rests n)) ≡ ((t and (eqb (getD numbers n 0) k and p (getD ids n 0))) or anyIn p b k ids rests numbers n)
+      go true e h = ap (λ (t : Bool). (t and (eqb (getD numbers n 0) k and p (getD ids n 0))) or anyIn p b k ids rests numbers n) e
+      go false e h = h
 
 and-true : (a : Bool) → (a and true) ≡ a
 unfolding pick
 and-true true = refl
 and-true false = refl
 
-module _ (graph copies : List ℕ) (id owner : ℕ) (ids owners numbers : List ℕ) where
-  -- At first no slot is marked.
-  pub mark-start : (seen barred partners : List ℕ) → seen ≡ replicate 4 0 → barred ≡ replicate 4 0 → partners ≡ replicate 4 0
-      → Marked graph copies id owner ids owners numbers 0 seen barred partners
-  unfolding anyIn
-  mark-start seen barred partners es eb ep =
+or-false : (a : Bool) → (a or false) ≡ a
+unfolding pick
+or-false true = refl
+or-false false = refl
+
+or-turn : (a b c : Bool) → ((a or b) or c) ≡ (b or (a or c))
+unfolding pick
+or-turn true true c = refl
+or-turn true false c = refl
+or-turn false b c = refl
+
+module _ (graph copies : List ℕ) (id b : ℕ) (ids rests numbers : List ℕ) (count : ℕ) where
+  -- What a row tells, together with the storages below `next`, is what all of them come to.
+  abbrev RowLeft : (ℕ → Bool) → ℕ → List ℕ → Type 0
+  RowLeft p next row = (k : ℕ) → k < 256 → (memberAt row 0 k or anyIn p b k ids rests numbers next) ≡ anyIn p b k ids rests numbers count
+
+  -- The loop's invariant, where `next` - 1 is the storage to which the links lead.
+  pub record Left (next : ℕ) (seen barred partners : List ℕ) : Type 0 where
+    pub within : next ≤ count
+    pub has : (i : ℕ) → next ≡ suc i → getD rests i 0 ≡ b
+    pub seen-left : RowLeft (λ j. true) next seen
+    pub barred-left : RowLeft (λ j. memberAt graph (id * 4) j) next barred
+    pub partners-left : RowLeft (λ j. memberAt copies (min id j * 4) (max id j)) next partners
+    pub seen-four : length seen ≡ 4
+    pub barred-four : length barred ≡ 4
+    pub partners-four : length partners ≡ 4
+
+  -- At first no slot is marked, and the last storage of the remainder is next.
+  row-start : (p : ℕ → Bool) (row : List ℕ) (next : ℕ) → row ≡ replicate 4 0 → next ≡ lastOf b rests count → RowLeft p next row
+  unfolding pick
+  row-start p row next e q k l =
+      ap (λ (r : List ℕ). memberAt r 0 k or anyIn p b k ids rests numbers next) e ∙ ap (λ (t : Bool). t or anyIn p b k ids rests numbers next) (none-marked k)
+      ∙ ap (anyIn p b k ids rests numbers) q ∙ any-in-last p b k ids rests numbers count
+
+  pub mark-start : (next : ℕ) (seen barred partners : List ℕ) → next ≡ lastOf b rests count → seen ≡ replicate 4 0 → barred ≡ replicate 4 0 → partners ≡ replicate 4 0
+      → Left next seen barred partners
+  mark-start next seen barred partners q es eb ep =
       record {
-        seen-are = λ k l. ap (λ (r : List ℕ). memberAt r 0 k) es ∙ none-marked k;
-        barred-are = λ k l. ap (λ (r : List ℕ). memberAt r 0 k) eb ∙ none-marked k;
-        partners-are = λ k l. ap (λ (r : List ℕ). memberAt r 0 k) ep ∙ none-marked k;
+        within = omega (arith, last-within b rests count);
+        has = λ i e. last-has b rests count i (sym q ∙ e);
+        seen-left = row-start _ seen next es q;
+        barred-left = row-start _ barred next eb q;
+        partners-left = row-start _ partners next ep q;
         seen-four = ap length es;
         barred-four = ap length eb;
         partners-four = ap length ep;
       }
 
-  module _ {i : ℕ} {seen barred partners : List ℕ} (m : Marked graph copies id owner ids owners numbers i seen barred partners) where
-    -- A row in which the storage's slot was marked, if the storage passes the row's test.
-    row-next : getD owners i 0 ≡ owner → (p : ℕ → Bool) (row : List ℕ) → length row ≡ 4 → (k : ℕ) → k < 256 → memberAt row 0 k ≡ anyIn p owner k ids owners numbers i
-        → memberAt (pick (ltb (getD numbers i 0) 256 and p (getD ids i 0)) (withAt row 0 (getD numbers i 0)) row) 0 k ≡ anyIn p owner k ids owners numbers (suc i)
-    row-next own p row four k l e = put-in row (getD numbers i 0) k four l _ _ e ∙ sym (any-in-own p owner k ids owners numbers i own)
+  module _ {next : ℕ} {seen barred partners : List ℕ} (m : Left next seen barred partners) where
+    module _ (kin : List ℕ) (linked : Linked rests kin count) (i : ℕ) (at : next ≡ suc i) where
+      -- The links lead on downwards, to the last one before of the same remainder.
+      leads : getD kin i 0 ≡ lastOf b rests i
+      leads = linked .befores i (omega (arith, m .within)) ∙ ap (λ (c : ℕ). lastOf c rests i) (m .has i at)
 
-    -- What is marked of one storage more of the owner.
-    pub mark-next : getD owners i 0 ≡ owner → (seen′ barred′ partners′ : List ℕ)
-        → seen′ ≡ pick (ltb (getD numbers i 0) 256) (withAt seen 0 (getD numbers i 0)) seen
-        → barred′ ≡ pick (ltb (getD numbers i 0) 256 and memberAt graph (id * 4) (getD ids i 0)) (withAt barred 0 (getD numbers i 0)) barred
-        → partners′
-        ≡ pick (ltb (getD numbers i 0) 256 and memberAt copies (min id (getD ids i 0) * 4) (max id (getD ids i 0))) (withAt partners 0 (getD numbers i 0)) partners
-        → Marked graph copies id owner ids owners numbers (i + 1) seen′ barred′ partners′
-    mark-next own seen′ barred′ partners′ es eb ep = rw (add-one, es, eb, ep) (
-        record {
-          seen-are = λ k l. ap (λ (t : Bool). memberAt (pick t (withAt seen 0 (getD numbers i 0)) seen) 0 k) (sym (and-true (ltb (getD numbers i 0) 256)))
-              ∙ row-next own (λ j. true) seen (m .seen-four) k l (m .seen-are k l);
-          barred-are = λ k l. row-next own _ barred (m .barred-four) k l (m .barred-are k l);
-          partners-are = λ k l. row-next own _ partners (m .partners-four) k l (m .partners-are k l);
-          seen-four = pick-length _ _ _ (length-with-at seen 0 (getD numbers i 0)) ∙ m .seen-four;
-          barred-four = pick-length _ _ _ (length-with-at barred 0 (getD numbers i 0)) ∙ m .barred-four;
-          partners-four = pick-length _ _ _ (length-with-at partners 0 (getD numbers i 0)) ∙ m .partners-four;
-        })
+      pub leads-down : getD kin i 0 < next
+      leads-down = omega (arith, leads, last-within b rests i)
 
-    -- A storage of another owner is passed over.
-    pub mark-past : (getD owners i 0 ≡ owner → ⊥) → (seen′ barred′ partners′ : List ℕ) → seen′ ≡ seen → barred′ ≡ barred → partners′ ≡ partners
-        → Marked graph copies id owner ids owners numbers (i + 1) seen′ barred′ partners′
-    mark-past d seen′ barred′ partners′ es eb ep = rw (add-one, es, eb, ep) (
+      -- A row in which the storage's slot was marked, if the storage passes the row's test.
+      row-next : (p : ℕ → Bool) (row : List ℕ) → length row ≡ 4 → RowLeft p next row
+          → RowLeft p (getD kin i 0) (pick (ltb (getD numbers i 0) 256 and p (getD ids i 0)) (withAt row 0 (getD numbers i 0)) row)
+      row-next p row four e k l =
+          ap (λ (t : Bool). t or anyIn p b k ids rests numbers (getD kin i 0)) (put-in row (getD numbers i 0) k four l (p (getD ids i 0)) _ refl)
+          ∙ or-turn (eqb (getD numbers i 0) k and p (getD ids i 0)) (memberAt row 0 k) (anyIn p b k ids rests numbers (getD kin i 0))
+          ∙ ap (λ (t : Bool). memberAt row 0 k or ((eqb (getD numbers i 0) k and p (getD ids i 0)) or t)) (ap (anyIn p b k ids rests numbers) leads ∙ any-in-last p b k ids rests numbers i)
+          ∙ ap (λ (t : Bool). memberAt row 0 k or t) (sym (any-in-own p b k ids rests numbers i (m .has i at)))
+          ∙ ap (λ (n : ℕ). memberAt row 0 k or anyIn p b k ids rests numbers n) (sym at) ∙ e k l
+
+      -- What is left once the storage is marked.
+      pub mark-next : (next′ : ℕ) (seen′ barred′ partners′ : List ℕ) → next′ ≡ getD kin i 0
+          → seen′ ≡ pick (ltb (getD numbers i 0) 256) (withAt seen 0 (getD numbers i 0)) seen
+          → barred′ ≡ pick (ltb (getD numbers i 0) 256 and memberAt graph (id * 4) (getD ids i 0)) (withAt barred 0 (getD numbers i 0)) barred
+          → partners′
+          ≡ pick (ltb (getD numbers i 0) 256 and memberAt copies (min id (getD ids i 0) * 4) (max id (getD ids i 0))) (withAt partners 0 (getD numbers i 0)) partners
+          → Left next′ seen′ barred′ partners′
+      mark-next next′ seen′ barred′ partners′ en es eb ep = rw (en, es, eb, ep) (
+          record {
+            within = omega (arith, leads-down, m .within);
+            has = λ j e. last-has b rests i j (sym leads ∙ e);
+            seen-left = λ k l.
+                ap (λ (t : Bool). memberAt (pick t (withAt seen 0 (getD numbers i 0)) seen) 0 k or anyIn (λ j. true) b k ids rests numbers (getD kin i 0)) (sym (and-true (ltb (getD numbers i 0) 256)))
+                ∙ row-next (λ j. true) seen (m .seen-four) (m .seen-left) k l;
+            barred-left = row-next _ barred (m .barred-four) (m .barred-left);
+            partners-left = row-next _ partners (m .partners-four) (m .partners-left);
+            seen-four = pick-length _ _ _ (length-with-at seen 0 (getD numbers i 0)) ∙ m .seen-four;
+            barred-four = pick-length _ _ _ (length-with-at barred 0 (getD numbers i 0)) ∙ m .barred-four;
+            partners-four = pick-length _ _ _ (length-with-at partners 0 (getD numbers i 0)) ∙ m .partners-four;
+          })
+
+    -- Where the links end, the rows tell of all.
+    row-end : next ≤ 0 → (p : ℕ → Bool) (row : List ℕ) → RowLeft p next row → (k : ℕ) → k < 256 → memberAt row 0 k ≡ anyIn p b k ids rests numbers count
+    unfolding anyIn
+    row-end h p row e k l =
+        let none : next ≡ 0 = omega arith in
+        sym (or-false (memberAt row 0 k)) ∙ ap (λ (n : ℕ). memberAt row 0 k or anyIn p b k ids rests numbers n) (sym none) ∙ e k l
+
+    pub mark-end : next ≤ 0 → Marked graph copies id b ids rests numbers count seen barred partners
+    mark-end h =
         record {
-          seen-are = λ k l. m .seen-are k l ∙ sym (any-in-other _ owner k ids owners numbers i d);
-          barred-are = λ k l. m .barred-are k l ∙ sym (any-in-other _ owner k ids owners numbers i d);
-          partners-are = λ k l. m .partners-are k l ∙ sym (any-in-other _ owner k ids owners numbers i d);
+          seen-are = row-end h _ seen (m .seen-left);
+          barred-are = row-end h _ barred (m .barred-left);
+          partners-are = row-end h _ partners (m .partners-left);
           seen-four = m .seen-four;
           barred-four = m .barred-four;
           partners-four = m .partners-four;
-        })
-
-    -- The walk ends where all are gone through.
-    pub mark-end : {n : ℕ} → i ≤ n → n ≤ i → Marked graph copies id owner ids owners numbers n seen barred partners
-    mark-end {n} h l = let e : i ≡ n = omega arith in rw e at m
+        }
 
 -- ---- Is any slot marked?
 

@@ -1,4 +1,4 @@
--- What is noted of one storage more. The code keeps ids, owners, slot numbers and slots at the front of arrays and the result records at the front of a buffer; a
+-- What is noted of one storage more. The code keeps ids, slot numbers and slots at the front of arrays and the result records at the front of a buffer; a
 -- store right behind the front puts one element at the end of the list that stands there, and the rest of the buffer stays clear.
 use mathlib.Core.Path.{_≡_, refl, sym, ap, _∙_, subst}
 use mathlib.Core.Bool.{Bool, true, false}
@@ -7,7 +7,7 @@ use Prim.Native.Nat.{ℕ, suc, _+_, _-_, _*_, _/_, _%_, _≤_, _<_}
 use native.Mathlib.Omega.{arith}
 use native.Mathlib.Numerals.{add-one}
 use native.Mathlib.Decide.{ℕ-discrete}
-use lib.ListN.{length, take, drop, getD, set, replicate, length-append, length-set, length-replicate, replicate-append-replicate, List·getD-map}
+use lib.ListN.{length, take, drop, getD, set, replicate, length-append, length-set, length-replicate, replicate-append-replicate, length-map, List·getD-map}
 use lib.Seq.{take-suc-set, take-append-seam, drop-append-add, drop-at, drop-nil, getD-take, getD-set-same, getD-set-other, map-set-same, sets-eq}
 use Rattle.rows.specs.Row.{put}
 use Rattle.fields.specs.Pick.{pick}
@@ -25,10 +25,11 @@ use Rattle.turns.specs.declared.turn.Verdict.{Verdict}
 use Rattle.turns.specs.declared.turn.Verdict.the-variants as verdict
 use Rattle.places.specs.Memory.{Maps, reserve}
 use Rattle.places.specs.Place.{Opened, noOpened, joined, Placed, State, Outcome, done, placedAt, joinSlot, recordAt, recordOf, recordsOf}
-use Rattle.turns.specs.Held.{slotNumber, Numbered, Kept, Held, listAfter, countAfter, TurnedBy}
+use Rattle.turns.specs.Held.{slotNumber, restsOf, Linked, linkedAt, Numbered, Kept, Held, listAfter, countAfter, TurnedBy}
 use Rattle.turns.proofs.Joining.{slotAt}
 use Rattle.turns.proofs.Numbering.{AllOwned, join-numbered, join-owned, take-numbered, take-owned}
 use Rattle.turns.proofs.Turns.{records-length, records-snoc}
+use Rattle.turns.proofs.Linking.{linked-more}
 
 -- ---- A result record
 
@@ -87,19 +88,25 @@ low-more ids i id h l low j b = go (ℕ-discrete j i)
     go (yes e) = rw (e, getD-set-same ids i id 0 h) l
     go (no e) = rw (getD-set-other ids i j id 0 e) (low j (omega arith))
 
-module _ (x : State) (list : List Slot) (n : ℕ) (ids owners numbers : List ℕ) (i : ℕ) (h : Kept x list n ids owners numbers i) where
-  module _ (li : length ids ≡ 256) (lw : length owners ≡ 256) (ln : length numbers ≡ 256) (room-left : i < 256) where
+rests-more : (ys : List Placed) (y : Placed) (kin : List ℕ) (i : ℕ) → i ≡ length ys → i < 256 → Linked (restsOf ys) kin i
+    → Linked (restsOf (ys ++ (y ∷ []))) (linkedAt kin i (y .what .owner % 256)) (i + 1)
+rests-more ys y kin i n h l =
+    subst (λ (rests : List ℕ). Linked rests (linkedAt kin i (y .what .owner % 256)) (i + 1)) (sym (map-append (λ (z : Placed). z .what .owner % 256) ys (y ∷ [])))
+    (linked-more (restsOf ys) kin i (y .what .owner % 256) l (n ∙ sym (length-map ys (λ (z : Placed). z .what .owner % 256))) h (omega arith))
+
+module _ (x : State) (list : List Slot) (n : ℕ) (ids kin numbers : List ℕ) (i : ℕ) (h : Kept x list n ids kin numbers i) where
+  module _ (li : length ids ≡ 256) (ln : length numbers ≡ 256) (room-left : i < 256) where
     -- One storage more at the end, and slots that stand for the new state's.
     kept-more : (m : Maps) (ss : List Opened) (y : Placed) (list′ : List Slot) (n′ number : ℕ) → number ≡ slotNumber (y .slot) → y .what .id < 256
         → Numbered (record { maps = m; slots = ss; placed = x .placed ++ (y ∷ []) }) → AllOwned ss (x .placed ++ (y ∷ []))
         → n′ ≡ length ss → take n′ list′ ≡ map (λ (o : Opened). o .slot) ss → n′ ≤ i + 1
-        → Kept (record { maps = m; slots = ss; placed = x .placed ++ (y ∷ []) }) list′ n′ (set ids i (y .what .id)) (set owners i (y .what .owner)) (set numbers i number) (i + 1)
+        → Kept (record { maps = m; slots = ss; placed = x .placed ++ (y ∷ []) }) list′ n′ (set ids i (y .what .id)) (linkedAt kin i (y .what .owner % 256)) (set numbers i number) (i + 1)
     kept-more m ss y list′ n′ number e low nd ow tn ts tf = record {
       many = tn;
       slots-are = ts;
       count = omega (arith, h .count, length-append (x .placed) (y ∷ []));
       ids-are = front-more ids _ i (y .what .id) (omega arith) (h .ids-are) ∙ sym (map-append (λ (z : Placed). z .what .id) (x .placed) (y ∷ []));
-      owners-are = front-more owners _ i (y .what .owner) (omega arith) (h .owners-are) ∙ sym (map-append (λ (z : Placed). z .what .owner) (x .placed) (y ∷ []));
+      linked = rests-more (x .placed) y kin i (h .count) room-left (h .linked);
       numbers-are =
           ap (λ (k : ℕ). take (i + 1) (set numbers i k)) e
           ∙ front-more numbers _ i (slotNumber (y .slot)) (omega arith) (h .numbers-are) ∙ sym (map-append (λ (z : Placed). slotNumber (z .slot)) (x .placed) (y ∷ []));
@@ -159,17 +166,17 @@ taken s x p = record {
   placed = placedAt s p (pick (tries s) (At (length (x .slots))) Nothing) (x .placed);
 }
 
-module _ (s : Storage) (x : State) (app wrk : List ℕ) (list : List Slot) (n : ℕ) (ids owners numbers out : List ℕ) (i : ℕ) (h : Held x app wrk list n ids owners numbers out i)
-    (li : length ids ≡ 256) (lw : length owners ≡ 256) (ln : length numbers ≡ 256) (room-left : i < 256) (low : s .id < 256)
-    (ids′ owners′ numbers′ out′ : List ℕ) (number : ℕ) (p : Placement)
-    (ei : ids′ ≡ set ids i (s .id)) (ew : owners′ ≡ set owners i (s .owner)) (en : numbers′ ≡ set numbers i number) (eo : out′ ≡ put out (i * 8) (recordAt (s .id) p)) where
+module _ (s : Storage) (x : State) (app wrk : List ℕ) (list : List Slot) (n : ℕ) (ids kin numbers out : List ℕ) (i : ℕ) (h : Held x app wrk list n ids kin numbers out i)
+    (li : length ids ≡ 256) (ln : length numbers ≡ 256) (room-left : i < 256) (low : s .id < 256)
+    (ids′ kin′ numbers′ out′ : List ℕ) (number : ℕ) (p : Placement)
+    (ei : ids′ ≡ set ids i (s .id)) (ew : kin′ ≡ linkedAt kin i (s .owner % 256)) (en : numbers′ ≡ set numbers i number) (eo : out′ ≡ put out (i * 8) (recordAt (s .id) p)) where
   -- The slot of a number takes the storage in.
   pub joined-held : number < n → slotAt (x .slots) number .slot .owner ≡ s .owner → p ≡ getD list number noSlot .placement
-      → Held (joinSlot s x number) app wrk list n ids′ owners′ numbers′ out′ (i + 1)
+      → Held (joinSlot s x number) app wrk list n ids′ kin′ numbers′ out′ (i + 1)
   joined-held l eq e =
       let k = h .kept in
       let t : Opened = getD (x .slots) number noOpened in
-      let there : p ≡ t .slot .placement = e ∙ ap (λ (o : Slot). o .placement) (slot-there x list n ids owners numbers i k number l) in
+      let there : p ≡ t .slot .placement = e ∙ ap (λ (o : Slot). o .placement) (slot-there x list n ids kin numbers i k number l) in
       let y : Placed = record { what = s; spot = t .slot .placement; slot = At number } in
       let low-number : number < length (x .slots) = omega (arith, k .many) in
       record {
@@ -177,7 +184,7 @@ module _ (s : Storage) (x : State) (app wrk : List ℕ) (list : List Slot) (n : 
         wrk-is = h .wrk-is;
         kept =
             rw (ei, ew, en)
-            (kept-more x list n ids owners numbers i k li lw ln room-left (x .maps) (set (x .slots) number (joined (s .id) t)) y list n number refl low
+            (kept-more x list n ids kin numbers i k li ln room-left (x .maps) (set (x .slots) number (joined (s .id) t)) y list n number refl low
             (join-numbered s x (k .numbered) number low-number) (join-owned s x (k .numbered) number low-number eq (k .owned))
             (k .many ∙ sym (length-set (x .slots) number (joined (s .id) t)))
             (k .slots-are ∙ sym (map-set-same (λ (o : Opened). o .slot) (x .slots) number (joined (s .id) t) noOpened refl)) (omega (arith, k .few)));
@@ -187,32 +194,32 @@ module _ (s : Storage) (x : State) (app wrk : List ℕ) (list : List Slot) (n : 
   -- The storage takes a place of its own, and may open a slot there.
   module _ (app′ wrk′ : List ℕ) (r : Room) (ll : length list ≡ 256) (e : number ≡ pick (tries s) n 256) (er : r ≡ room (s .len) p)
       (em : record { app = app′; wrk = wrk′ } ≡ reserve r (record { app = app; wrk = wrk })) where
-    taken-held : Held (taken s x p) app′ wrk′ (listAfter list n s (pick (tries s) (verdict.Opened p) verdict.Placed)) (countAfter n (pick (tries s) (verdict.Opened p) verdict.Placed)) ids′ owners′ numbers′ out′ (i + 1)
+    taken-held : Held (taken s x p) app′ wrk′ (listAfter list n s (pick (tries s) (verdict.Opened p) verdict.Placed)) (countAfter n (pick (tries s) (verdict.Opened p) verdict.Placed)) ids′ kin′ numbers′ out′ (i + 1)
     taken-held =
         let k = h .kept in
         let y : Placed = record { what = s; spot = p; slot = pick (tries s) (At (length (x .slots))) Nothing } in
         let now : record { app = app; wrk = wrk } ≡ x .maps = (λ j. record { app = h .app-is j; wrk = h .wrk-is j }) in
         let maps : record { app = app′; wrk = wrk′ } ≡ reserve (room (s .len) p) (x .maps) = em ∙ ap (λ (q : Room). reserve q (record { app = app; wrk = wrk })) er ∙ ap (reserve (room (s .len) p)) now in
-        let o = opened-for x list n ids owners numbers i k s p (omega (arith, k .few)) in
+        let o = opened-for x list n ids kin numbers i k s p (omega (arith, k .few)) in
         record {
           app-is = ap (λ (m : Maps). m .app) maps;
           wrk-is = ap (λ (m : Maps). m .wrk) maps;
           kept =
               rw (ei, ew, en)
-              (kept-more x list n ids owners numbers i k li lw ln room-left (reserve (room (s .len) p) (x .maps)) _ y (listAfter list n s (pick (tries s) (verdict.Opened p) verdict.Placed)) (countAfter n (pick (tries s) (verdict.Opened p) verdict.Placed)) number
-              (number-for x list n ids owners numbers i k s p number e) low (take-numbered s x (k .numbered) p (reserve (room (s .len) p) (x .maps)) (tries s))
+              (kept-more x list n ids kin numbers i k li ln room-left (reserve (room (s .len) p) (x .maps)) _ y (listAfter list n s (pick (tries s) (verdict.Opened p) verdict.Placed)) (countAfter n (pick (tries s) (verdict.Opened p) verdict.Placed)) number
+              (number-for x list n ids kin numbers i k s p number e) low (take-numbered s x (k .numbered) p (reserve (room (s .len) p) (x .maps)) (tries s))
               (take-owned s x (k .numbered) p (tries s) (k .owned)) (o .0) (o .1) (o .2));
           out-is = eo ∙ records-more out (x .placed) y i (k .count) room-left (h .out-is);
         }
 
     -- The verdict tells whether it did.
     pub taken-turned : (o : Outcome) (v : Verdict) → o ≡ done (taken s x p) → v ≡ pick (tries s) (verdict.Opened p) verdict.Placed
-        → TurnedBy o v app′ wrk′ (listAfter list n s v) (countAfter n v) ids′ owners′ numbers′ out′ (i + 1)
+        → TurnedBy o v app′ wrk′ (listAfter list n s v) (countAfter n v) ids′ kin′ numbers′ out′ (i + 1)
     unfolding pick
     taken-turned o v q ev =
-        subst (λ (u : Verdict). TurnedBy o u app′ wrk′ (listAfter list n s u) (countAfter n u) ids′ owners′ numbers′ out′ (i + 1)) (sym ev) (go (tries s) taken-held)
+        subst (λ (u : Verdict). TurnedBy o u app′ wrk′ (listAfter list n s u) (countAfter n u) ids′ kin′ numbers′ out′ (i + 1)) (sym ev) (go (tries s) taken-held)
       where
-        go : (b : Bool) → Held (taken s x p) app′ wrk′ (listAfter list n s (pick b (verdict.Opened p) verdict.Placed)) (countAfter n (pick b (verdict.Opened p) verdict.Placed)) ids′ owners′ numbers′ out′ (i + 1)
-            → TurnedBy o (pick b (verdict.Opened p) verdict.Placed) app′ wrk′ (listAfter list n s (pick b (verdict.Opened p) verdict.Placed)) (countAfter n (pick b (verdict.Opened p) verdict.Placed)) ids′ owners′ numbers′ out′ (i + 1)
+        go : (b : Bool) → Held (taken s x p) app′ wrk′ (listAfter list n s (pick b (verdict.Opened p) verdict.Placed)) (countAfter n (pick b (verdict.Opened p) verdict.Placed)) ids′ kin′ numbers′ out′ (i + 1)
+            → TurnedBy o (pick b (verdict.Opened p) verdict.Placed) app′ wrk′ (listAfter list n s (pick b (verdict.Opened p) verdict.Placed)) (countAfter n (pick b (verdict.Opened p) verdict.Placed)) ids′ kin′ numbers′ out′ (i + 1)
         go true t = (taken s x p, q, t)
         go false t = (taken s x p, q, t)

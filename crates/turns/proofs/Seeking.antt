@@ -3,7 +3,7 @@
 use mathlib.Core.Path.{_≡_, refl, sym, ap, ap₂, _∙_}
 use mathlib.Core.Bool.{Bool, true, false, not, _&&_}
 use mathlib.Core.List.{List, [], _∷_, map}
-use Prim.Native.Nat.{ℕ, zero, suc, _≤_, _<_, min, max}
+use Prim.Native.Nat.{ℕ, zero, suc, _%_, _≤_, _<_, min, max}
 use native.Mathlib.Omega.{arith}
 use lib.Dec.{eqb}
 use lib.ListN.{length, take, getD, replicate}
@@ -24,22 +24,21 @@ use Rattle.slots.specs.Slots.{noSlot, suits, passes, firstOf}
 use Rattle.slots.proofs.Laws.{first-is, first-none}
 use Rattle.slots.proofs.Marks.{and-false}
 use Rattle.places.specs.Place.{Given, Opened, fits, partners, fitsCopied, firstSlot, orElse, slotFor, Placed, State}
-use Rattle.turns.specs.Held.{slotNumber, inSlot, Owned, Tells, anyIn, Marked, Kept, slotIn}
+use Rattle.turns.specs.Held.{slotNumber, inSlot, Owned, Tells, restsOf, anyIn, Marked, Kept, slotIn}
 use Rattle.places.proofs.Tests.{and-l}
 use Rattle.turns.proofs.Joining.{slotAt, FirstSlot, first-slot}
 use Rattle.turns.proofs.Numbering.{any-ids}
 use Rattle.turns.proofs.Marking.{none-marked}
 use Rattle.turns.proofs.Noting.{slot-there}
 
--- ---- A test over the placed storages, by their ids, owners and numbers
+-- ---- A test over the placed storages, by their ids, remainders and numbers
 
--- Only the first n ids, owners and numbers count, and only what the test says of these ids.
-module _ (p q : ℕ → Bool) (owner k : ℕ) (ids owners numbers ids′ owners′ numbers′ : List ℕ) where
+-- Only the first n ids and numbers count, and only what the test says of these ids.
+module _ (p q : ℕ → Bool) (b k : ℕ) (rests ids numbers ids′ numbers′ : List ℕ) where
   any-in-same : (n : ℕ)
       → ((j : ℕ) → j < n
-      → (eqb (getD owners j 0) owner and (eqb (getD numbers j 0) k and p (getD ids j 0)))
-      ≡ (eqb (getD owners′ j 0) owner and (eqb (getD numbers′ j 0) k and q (getD ids′ j 0))))
-      → anyIn p owner k ids owners numbers n ≡ anyIn q owner k ids′ owners′ numbers′ n
+      → (eqb (getD numbers j 0) k and p (getD ids j 0)) ≡ (eqb (getD numbers′ j 0) k and q (getD ids′ j 0)))
+      → anyIn p b k ids rests numbers n ≡ anyIn q b k ids′ rests numbers′ n
   unfolding anyIn
   any-in-same zero same = refl
   any-in-same (suc n) same = rw (same n (omega arith), any-in-same n (λ j l. same j (omega arith)))
@@ -51,57 +50,55 @@ or-swap true false c = refl
 or-swap false b c = refl
 
 -- The walk ends at the first storage, where a test over a list begins.
-module _ (p : ℕ → Bool) (owner k a o b : ℕ) (ids owners numbers : List ℕ) where
+module _ (p : ℕ → Bool) (b k id rest number : ℕ) (ids rests numbers : List ℕ) where
   any-in-cons : (n : ℕ)
-      → anyIn p owner k (a ∷ ids) (o ∷ owners) (b ∷ numbers) (suc n) ≡ ((eqb o owner and (eqb b k and p a)) or anyIn p owner k ids owners numbers n)
+      → anyIn p b k (id ∷ ids) (rest ∷ rests) (number ∷ numbers) (suc n) ≡ ((eqb rest b and (eqb number k and p id)) or anyIn p b k ids rests numbers n)
   unfolding anyIn
   any-in-cons zero = refl
   any-in-cons (suc n) =
-      ap (λ (t : Bool). (eqb (getD owners n 0) owner and (eqb (getD numbers n 0) k and p (getD ids n 0))) or t) (any-in-cons n)
-      ∙ or-swap (eqb (getD owners n 0) owner and (eqb (getD numbers n 0) k and p (getD ids n 0))) (eqb o owner and (eqb b k and p a))
-      (anyIn p owner k ids owners numbers n)
+      ap (λ (t : Bool). (eqb (getD rests n 0) b and (eqb (getD numbers n 0) k and p (getD ids n 0))) or t) (any-in-cons n)
+      ∙ or-swap (eqb (getD rests n 0) b and (eqb (getD numbers n 0) k and p (getD ids n 0))) (eqb rest b and (eqb number k and p id)) (anyIn p b k ids rests numbers n)
 
 -- The number of a storage that is in no slot is not k.
 number-is : (k : ℕ) → k < 256 → (r : Found) → eqb (slotNumber r) k ≡ inSlot k r
 number-is k l Nothing = ne-eqb 256 k (omega arith)
 number-is k l (At j) = refl
 
--- A slot of this owner has storages of this owner only, so that a test of the owner leaves none of them out.
+-- A slot of this owner has storages of this owner only, so that a test of the remainder leaves none of them out.
 module _ (p : ℕ → Bool) (ts : List Opened) (owner k : ℕ) (own : slotAt ts k .slot .owner ≡ owner) where
-  own-only : (y : Placed) (b : Bool) (r : Found) → Owned ts y r → (eqb (y .what .owner) owner and (inSlot k r and b)) ≡ (inSlot k r and b)
+  own-only : (y : Placed) (b : Bool) (r : Found) → Owned ts y r → (eqb (y .what .owner % 256) (owner % 256) and (inSlot k r and b)) ≡ (inSlot k r and b)
   unfolding pick
-  own-only y b Nothing h = and-false (eqb (y .what .owner) owner)
+  own-only y b Nothing h = and-false (eqb (y .what .owner % 256) (owner % 256))
   own-only y b (At j) h = go (eqb j k) refl
     where
-      go : (t : Bool) → eqb j k ≡ t → (eqb (y .what .owner) owner and (t and b)) ≡ (t and b)
-      go false e = and-false (eqb (y .what .owner) owner)
+      go : (t : Bool) → eqb j k ≡ t → (eqb (y .what .owner % 256) (owner % 256) and (t and b)) ≡ (t and b)
+      go false e = and-false (eqb (y .what .owner % 256) (owner % 256))
       go true e =
           let same = h ∙ ap (λ (n : ℕ). slotAt ts n .slot .owner) (eqb-true j k e) ∙ own in
-          pick-yes (eqb (y .what .owner) owner) b false (eq-eqb (y .what .owner) owner same)
+          pick-yes (eqb (y .what .owner % 256) (owner % 256)) b false (eq-eqb (y .what .owner % 256) (owner % 256) (ap (λ (o : ℕ). o % 256) same))
 
   any-in-map : k < 256 → (ys : List Placed) → All (λ (y : Placed). Owned ts y (y .slot)) ys
-      → anyIn p owner k (map (λ (y : Placed). y .what .id) ys) (map (λ (y : Placed). y .what .owner) ys) (map (λ (y : Placed). slotNumber (y .slot)) ys) (length ys)
+      → anyIn p (owner % 256) k (map (λ (y : Placed). y .what .id) ys) (restsOf ys) (map (λ (y : Placed). slotNumber (y .slot)) ys) (length ys)
       ≡ any (λ y. inSlot k (y .slot) and p (y .what .id)) ys
   unfolding anyIn any
   any-in-map l [] h = refl
   any-in-map l (y ∷ ys) h =
-      any-in-cons p owner k (y .what .id) (y .what .owner) (slotNumber (y .slot)) (map (λ (z : Placed). z .what .id) ys) (map (λ (z : Placed). z .what .owner) ys)
+      any-in-cons p (owner % 256) k (y .what .id) (y .what .owner % 256) (slotNumber (y .slot)) (map (λ (z : Placed). z .what .id) ys) (restsOf ys)
       (map (λ (z : Placed). slotNumber (z .slot)) ys) (length ys)
       ∙ rw (number-is k l (y .slot), own-only y (p (y .what .id)) (y .slot) (h .0), any-in-map l ys (h .1))
 
-module _ (x : State) (list : List Slot) (n : ℕ) (ids owners numbers : List ℕ) (i : ℕ) (kept : Kept x list n ids owners numbers i) where
-  -- Over the ids, owners and numbers, a test is one over the members of a slot of the owner.
+module _ (x : State) (list : List Slot) (n : ℕ) (ids kin numbers : List ℕ) (i : ℕ) (kept : Kept x list n ids kin numbers i) where
+  -- Over the ids, remainders and numbers, a test is one over the members of a slot of the owner.
   any-members : (p q : ℕ → Bool) (owner k : ℕ) → ((j : ℕ) → j < 256 → p j ≡ q j) → k < length (x .slots) → k < 256 → slotAt (x .slots) k .slot .owner ≡ owner
-      → anyIn p owner k ids owners numbers i ≡ any q (slotAt (x .slots) k .members)
+      → anyIn p (owner % 256) k ids (restsOf (x .placed)) numbers i ≡ any q (slotAt (x .slots) k .members)
   any-members p q owner k same b l own =
-      any-in-same p q owner k ids owners numbers (take i ids) (take i owners) (take i numbers) i each
-      ∙ rw (kept .ids-are, kept .owners-are, kept .numbers-are, kept .count) (any-in-map q (x .slots) owner k own l (x .placed) (kept .owned))
+      any-in-same p q (owner % 256) k (restsOf (x .placed)) ids numbers (take i ids) (take i numbers) i each
+      ∙ rw (kept .ids-are, kept .numbers-are, kept .count) (any-in-map q (x .slots) owner k own l (x .placed) (kept .owned))
       ∙ sym (any-ids q k (x .placed)) ∙ sym (ap (any q) (kept .numbered .members k b))
     where
       each : (j : ℕ) → j < i
-          → (eqb (getD owners j 0) owner and (eqb (getD numbers j 0) k and p (getD ids j 0)))
-          ≡ (eqb (getD (take i owners) j 0) owner and (eqb (getD (take i numbers) j 0) k and q (getD (take i ids) j 0)))
-      each j h = rw (getD-take i owners j 0 h, getD-take i numbers j 0 h, getD-take i ids j 0 h, same (getD ids j 0) (kept .low j h))
+          → (eqb (getD numbers j 0) k and p (getD ids j 0)) ≡ (eqb (getD (take i numbers) j 0) k and q (getD (take i ids) j 0))
+      each j h = rw (getD-take i numbers j 0 h, getD-take i ids j 0 h, same (getD ids j 0) (kept .low j h))
 
 -- ---- The first slot that passes
 
@@ -169,9 +166,9 @@ any-some (j ∷ l) h = refl
 
 -- ---- The slot that is joined
 
-module _ (g : Given) (s : Storage) (x : State) (list : List Slot) (n : ℕ) (ids owners numbers : List ℕ) (i : ℕ) (graph copies : List ℕ) (tells : Tells g graph copies)
-    (kept : Kept x list n ids owners numbers i) where
-  module _ (seen barred partnered free : List ℕ) (marked : Marked graph copies (s .id) (s .owner) ids owners numbers i seen barred partnered)
+module _ (g : Given) (s : Storage) (x : State) (list : List Slot) (n : ℕ) (ids kin numbers : List ℕ) (i : ℕ) (graph copies : List ℕ) (tells : Tells g graph copies)
+    (kept : Kept x list n ids kin numbers i) where
+  module _ (seen barred partnered free : List ℕ) (marked : Marked graph copies (s .id) (s .owner % 256) ids (restsOf (x .placed)) numbers i seen barred partnered)
       (left : free ≡ put seen 0 (lessRow (row seen 0 4) (row barred 0 4))) (own : s .id < 256) (most : n ≤ 256) where
     -- A slot that suits the storage is seen, by the storage that opened it; so it is left where no member meets the storage.
     free-is : (k : ℕ) → k < n → suits s (slotAt (x .slots) k .slot) ≡ true
@@ -181,10 +178,10 @@ module _ (g : Given) (s : Storage) (x : State) (list : List Slot) (n : ℕ) (ids
         let b : k < length (x .slots) = omega (arith, kept .many) in
         left-is seen barred free (marked .seen-four) (marked .barred-four) left k
         ∙ ap₂ (λ (a c : Bool). a && not c)
-        (marked .seen-are k h ∙ any-members x list n ids owners numbers i kept _ (λ j. true) (s .owner) k (λ j c. refl) b h (suits-owner s _ e)
+        (marked .seen-are k h ∙ any-members x list n ids kin numbers i kept _ (λ j. true) (s .owner) k (λ j c. refl) b h (suits-owner s _ e)
         ∙ any-some _ (kept .numbered .filled k b))
         (marked .barred-are k h
-        ∙ any-members x list n ids owners numbers i kept _ (g .meets (s .id)) (s .owner) k (λ j c. tells .meeting (s .id) j own c) b h (suits-owner s _ e))
+        ∙ any-members x list n ids kin numbers i kept _ (g .meets (s .id)) (s .owner) k (λ j c. tells .meeting (s .id) j own c) b h (suits-owner s _ e))
 
     partners-is : (k : ℕ) → k < n → suits s (slotAt (x .slots) k .slot) ≡ true → memberAt partnered 0 k ≡ partners g s (slotAt (x .slots) k)
     unfolding partners
@@ -192,17 +189,17 @@ module _ (g : Given) (s : Storage) (x : State) (list : List Slot) (n : ℕ) (ids
         let h : k < 256 = omega arith in
         let b : k < length (x .slots) = omega (arith, kept .many) in
         marked .partners-are k h
-        ∙ any-members x list n ids owners numbers i kept _ (λ m. g .copies (min (s .id) m) (max (s .id) m)) (s .owner) k
+        ∙ any-members x list n ids kin numbers i kept _ (λ m. g .copies (min (s .id) m) (max (s .id) m)) (s .owner) k
         (λ j c. tells .copying (min (s .id) j) (max (s .id) j) (omega arith) (omega arith)) b h (suits-owner s _ e)
 
     passes-fits : (k : ℕ) → k < n → passes s free free k (getD list k noSlot) ≡ fits g s (slotAt (x .slots) k)
     unfolding passes fits
-    passes-fits k l = rw (slot-there x list n ids owners numbers i kept k l, and-self) (and-where _ _ _ (free-is k l))
+    passes-fits k l = rw (slot-there x list n ids kin numbers i kept k l, and-self) (and-where _ _ _ (free-is k l))
 
     passes-copied : (k : ℕ) → k < n → passes s free partnered k (getD list k noSlot) ≡ fitsCopied g s (slotAt (x .slots) k)
     unfolding passes fits
     passes-copied k l =
-        rw (slot-there x list n ids owners numbers i kept k l)
+        rw (slot-there x list n ids kin numbers i kept k l)
         (and-where _ _ _ (λ e. ap₂ (λ (a b : Bool). a and b) (free-is k l e) (partners-is k l e)) ∙ and-and _ _ _)
 
     copied-found : firstOf (passes s free partnered) list n n ≡ slotIn n (firstSlot (fitsCopied g s) (x .slots))

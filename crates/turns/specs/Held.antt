@@ -1,9 +1,9 @@
 -- What the placer holds while it goes through the storages, against the state that `places` defines: maps and slots as they are, of each placed storage its id,
--- its owner and its slot's number, and the result records so far.
+-- its slot's number and a link to the one before it whose owner has the same remainder by 256, and the result records so far.
 use mathlib.Core.Path.{_≡_}
 use mathlib.Core.Bool.{Bool, true, false}
 use mathlib.Core.List.{List, [], _∷_, map}
-use Prim.Native.Nat.{ℕ, zero, suc, _+_, _*_, _≤_, _<_, min, max}
+use Prim.Native.Nat.{ℕ, zero, suc, _+_, _*_, _%_, _≤_, _<_, min, max}
 use lib.Dec.{eqb}
 use lib.ListN.{length, take, getD, set}
 use Rattle.rows.specs.Row.{memberAt}
@@ -52,28 +52,47 @@ pub record Tells (g : P.Given) (graph copies : List ℕ) : Type 0 where
   pub meeting : (i j : ℕ) → i < 256 → j < 256 → memberAt graph (i * 4) j ≡ g .meets i j
   pub copying : (i j : ℕ) → i < 256 → j < 256 → memberAt copies (i * 4) j ≡ g .copies i j
 
--- Of the first n placed storages, one has this owner, is in slot k and passes a test of its id.
-unfoldable pub anyIn : (ℕ → Bool) → ℕ → ℕ → List ℕ → List ℕ → List ℕ → ℕ → Bool
-anyIn p owner k ids owners numbers zero = false
-anyIn p owner k ids owners numbers (suc n) =
-    (eqb (getD owners n 0) owner and (eqb (getD numbers n 0) k and p (getD ids n 0))) or anyIn p owner k ids owners numbers n
+-- The owners' remainders by 256: so few that there is an entry for each.
+abbrev pub restsOf : List P.Placed → List ℕ
+restsOf ys = map (λ (y : P.Placed). y .what .owner % 256) ys
 
--- The rows of slots, once the placed storages of an owner are gone through: with a member; with one that storage `id` meets; with a copy partner of it.
-pub record Marked (graph copies : List ℕ) (id owner : ℕ) (ids owners numbers : List ℕ) (n : ℕ) (seen barred partners : List ℕ) : Type 0 where
-  pub seen-are : (k : ℕ) → k < 256 → memberAt seen 0 k ≡ anyIn (λ j. true) owner k ids owners numbers n
-  pub barred-are : (k : ℕ) → k < 256 → memberAt barred 0 k ≡ anyIn (λ j. memberAt graph (id * 4) j) owner k ids owners numbers n
-  pub partners-are : (k : ℕ) → k < 256 → memberAt partners 0 k ≡ anyIn (λ j. memberAt copies (min id j * 4) (max id j)) owner k ids owners numbers n
+-- 1 + the last number below n that has the remainder b; 0 where none has.
+unfoldable pub lastOf : ℕ → List ℕ → ℕ → ℕ
+lastOf b rests zero = 0
+lastOf b rests (suc n) = pick (eqb (getD rests n 0) b) (suc n) (lastOf b rests n)
+
+-- The links among the first i placed storages: entry 256 + b leads to the last one of remainder b, and the entry of a storage to the one before it of its own remainder.
+pub record Linked (rests kin : List ℕ) (i : ℕ) : Type 0 where
+  pub long : length kin ≡ 512
+  pub lasts : (b : ℕ) → b < 256 → getD kin (256 + b) 0 ≡ lastOf b rests i
+  pub befores : (j : ℕ) → j < i → getD kin j 0 ≡ lastOf (getD rests j 0) rests j
+
+-- The links with the i-th storage, of remainder b: it leads to the one that was the last, and is the last itself.
+abbrev pub linkedAt : List ℕ → ℕ → ℕ → List ℕ
+linkedAt kin i b = set (set kin i (getD kin (256 + b) 0)) (256 + b) (i + 1)
+
+-- Of the first n placed storages, one has the remainder b, is in slot k and passes a test of its id.
+unfoldable pub anyIn : (ℕ → Bool) → ℕ → ℕ → List ℕ → List ℕ → List ℕ → ℕ → Bool
+anyIn p b k ids rests numbers zero = false
+anyIn p b k ids rests numbers (suc n) =
+    (eqb (getD rests n 0) b and (eqb (getD numbers n 0) k and p (getD ids n 0))) or anyIn p b k ids rests numbers n
+
+-- The rows of slots, once the placed storages of a remainder are gone through: with a member; with one that storage `id` meets; with a copy partner of it.
+pub record Marked (graph copies : List ℕ) (id b : ℕ) (ids rests numbers : List ℕ) (n : ℕ) (seen barred partners : List ℕ) : Type 0 where
+  pub seen-are : (k : ℕ) → k < 256 → memberAt seen 0 k ≡ anyIn (λ j. true) b k ids rests numbers n
+  pub barred-are : (k : ℕ) → k < 256 → memberAt barred 0 k ≡ anyIn (λ j. memberAt graph (id * 4) j) b k ids rests numbers n
+  pub partners-are : (k : ℕ) → k < 256 → memberAt partners 0 k ≡ anyIn (λ j. memberAt copies (min id j * 4) (max id j)) b k ids rests numbers n
   pub seen-four : length seen ≡ 4
   pub barred-four : length barred ≡ 4
   pub partners-four : length partners ≡ 4
 
--- The first n slots of the list, and of the i storages placed so far the ids, owners and slot numbers, stand for a state's slots and members.
-pub record Kept (x : P.State) (list : List Slot) (n : ℕ) (ids owners numbers : List ℕ) (i : ℕ) : Type 0 where
+-- The first n slots of the list, and of the i storages placed so far the ids, links and slot numbers, stand for a state's slots and members.
+pub record Kept (x : P.State) (list : List Slot) (n : ℕ) (ids kin numbers : List ℕ) (i : ℕ) : Type 0 where
   pub many : n ≡ length (x .slots)
   pub slots-are : take n list ≡ map (λ (t : P.Opened). t .slot) (x .slots)
   pub count : i ≡ length (x .placed)
   pub ids-are : take i ids ≡ map (λ (y : P.Placed). y .what .id) (x .placed)
-  pub owners-are : take i owners ≡ map (λ (y : P.Placed). y .what .owner) (x .placed)
+  pub linked : Linked (restsOf (x .placed)) kin i
   pub numbers-are : take i numbers ≡ map (λ (y : P.Placed). slotNumber (y .slot)) (x .placed)
   pub numbered : Numbered x
   pub owned : All (λ (y : P.Placed). Owned (x .slots) y (y .slot)) (x .placed)
@@ -81,10 +100,10 @@ pub record Kept (x : P.State) (list : List Slot) (n : ℕ) (ids owners numbers :
   pub few : n ≤ i
 
 -- With the maps and the result records so far, the placer's words stand for the whole state.
-pub record Held (x : P.State) (app wrk : List ℕ) (list : List Slot) (n : ℕ) (ids owners numbers out : List ℕ) (i : ℕ) : Type 0 where
+pub record Held (x : P.State) (app wrk : List ℕ) (list : List Slot) (n : ℕ) (ids kin numbers out : List ℕ) (i : ℕ) : Type 0 where
   pub app-is : app ≡ x .maps .app
   pub wrk-is : wrk ≡ x .maps .wrk
-  pub kept : Kept x list n ids owners numbers i
+  pub kept : Kept x list n ids kin numbers i
   pub out-is : out ≡ laid 2048 (P.recordsOf (x .placed)) []
 
 -- The number of the slot that was found; n where none was.
@@ -105,6 +124,6 @@ countAfter n (Refused r) = n
 
 -- What the placing of one storage leaves: the state that its step comes to, or the step's refusal.
 abbrev pub TurnedBy : P.Outcome → Verdict → List ℕ → List ℕ → List Slot → ℕ → List ℕ → List ℕ → List ℕ → List ℕ → ℕ → Type 0
-TurnedBy o Placed app wrk list n ids owners numbers out i = (y : P.State) × (o ≡ P.done y) × Held y app wrk list n ids owners numbers out i
-TurnedBy o (Opened p) app wrk list n ids owners numbers out i = (y : P.State) × (o ≡ P.done y) × Held y app wrk list n ids owners numbers out i
-TurnedBy o (Refused r) app wrk list n ids owners numbers out i = o ≡ P.refused r
+TurnedBy o Placed app wrk list n ids kin numbers out i = (y : P.State) × (o ≡ P.done y) × Held y app wrk list n ids kin numbers out i
+TurnedBy o (Opened p) app wrk list n ids kin numbers out i = (y : P.State) × (o ≡ P.done y) × Held y app wrk list n ids kin numbers out i
+TurnedBy o (Refused r) app wrk list n ids kin numbers out i = o ≡ P.refused r

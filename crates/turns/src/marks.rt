@@ -1,14 +1,15 @@
 // Which slots a storage may join: those of its owner without a member that it interferes with; and among them those with a copy partner.
 ghost use mathlib.Core.Path.{_≡_};
 ghost use mathlib.Core.Bool.{not};
-ghost use Prim.Native.Nat.{ℕ, _*_, _≤_, _<_, min, max};
+ghost use mathlib.Core.List.{List};
+ghost use Prim.Native.Nat.{ℕ, _*_, _%_, _≤_, _<_, min, max};
 ghost use lib.Dec.{ltb};
 ghost use lib.ListN.{length, getD, replicate};
 ghost use Rattle.rows.specs.Row.{memberAt, withAt, sameRow};
 ghost use Rattle.fields.specs.Pick.{pick, _and_};
 ghost use Rattle.slots.specs.Slots.{slotsIn};
 ghost use Rattle.places.specs.Place.{Given, State, slotFor};
-ghost use Rattle.turns.specs.Held.{Tells, Marked, Kept, slotIn};
+ghost use Rattle.turns.specs.Held.{Tells, Linked, Marked, Kept, slotIn};
 use slots::Page;
 use slots::search;
 use storages::Storage;
@@ -53,40 +54,40 @@ fn mark_one(
     }
 }
 
-// All placed storages of one owner; `ids` has the ids, `numbers` the slots. A slot that a storage may join has members of its owner only, one at least. At first the rows are empty.
+// All placed storages whose owner has this one's remainder by 256, the last first; `ids` has the ids, `numbers` the slots, `kin` the links. A slot that a storage may join has members of its owner only, one at least; another owner's slot does not suit it, marked or not. At first the rows are empty.
 fn mark(
     graph: &[u64],
     copies: &[u64],
     id: usize,
     owner: u16,
     ids: &[u16],
-    owners: &[u16],
+    kin: &[u16],
     numbers: &[u16],
     count: usize,
     seen: &mut [u64],
     barred: &mut [u64],
     partners: &mut [u64],
 )
-    requires { ⌜ (length (now graph) ≡ 1024) × (length (now copies) ≡ 1024) × (id < 256) × (length (now ids) ≡ 256) × (length (now owners) ≡ 256) × (length (now numbers) ≡ 256) × (count ≤ 256)
+    requires { ⌜ (length (now graph) ≡ 1024) × (length (now copies) ≡ 1024) × (id < 256) × (length (now ids) ≡ 256) × (length (now kin) ≡ 512) × (length (now numbers) ≡ 256) × (count ≤ 256)
         × ((j : ℕ) → j < count → getD (now ids) j 0 < 256)
-        × (now seen ≡ replicate 4 0) × (now barred ≡ replicate 4 0) × (now partners ≡ replicate 4 0) ⌝ }
-    ensures { λ _. ⌜ Marked (now (graph .entry)) (now (copies .entry)) id owner (now (ids .entry)) (now (owners .entry)) (now (numbers .entry)) count (now (seen .exit)) (now (barred .exit)) (now (partners .exit)) ⌝ }
+        × (now seen ≡ replicate 4 0) × (now barred ≡ replicate 4 0) × (now partners ≡ replicate 4 0) × ((rests : List ℕ) × Linked rests (now kin) count) ⌝ }
+    ensures { λ _. ⌜ ((rests : List ℕ) → Linked rests (now (kin .entry)) count
+        → Marked (now (graph .entry)) (now (copies .entry)) id (owner % 256) (now (ids .entry)) rests (now (numbers .entry)) count (now (seen .exit)) (now (barred .exit)) (now (partners .exit))) ⌝ }
 {
-    let mut i = 0;
-    while i < count {
-        if owners[i] == owner {
-            mark_one(
-                graph,
-                copies,
-                id,
-                ids[i] as usize,
-                numbers[i] as usize,
-                seen,
-                barred,
-                partners,
-            );
-        }
-        i += 1;
+    let mut next = kin[256 + (owner % 256) as usize] as usize;
+    while 0 < next {
+        let i = next - 1;
+        mark_one(
+            graph,
+            copies,
+            id,
+            ids[i] as usize,
+            numbers[i] as usize,
+            seen,
+            barred,
+            partners,
+        );
+        next = kin[i] as usize;
     }
 }
 
@@ -115,13 +116,13 @@ pub fn slot_for(
     graph: &[u64],
     copies: &[u64],
     ids: &[u16],
-    owners: &[u16],
+    kin: &[u16],
     numbers: &[u16],
     count: usize,
 ) -> usize
-    requires { ⌜ (n ≤ 256) × (s .id < 256) × (length (now graph) ≡ 1024) × (length (now copies) ≡ 1024) × (length (now ids) ≡ 256) × (length (now owners) ≡ 256) × (length (now numbers) ≡ 256) × (count ≤ 256)
-        × ((j : ℕ) → j < count → getD (now ids) j 0 < 256) ⌝ }
-    ensures { λ r. ⌜ ((g : Given) (x : State) → Tells g (now (graph .entry)) (now (copies .entry)) → Kept x (slotsIn list) n (now (ids .entry)) (now (owners .entry)) (now (numbers .entry)) count
+    requires { ⌜ (n ≤ 256) × (s .id < 256) × (length (now graph) ≡ 1024) × (length (now copies) ≡ 1024) × (length (now ids) ≡ 256) × (length (now kin) ≡ 512) × (length (now numbers) ≡ 256) × (count ≤ 256)
+        × ((j : ℕ) → j < count → getD (now ids) j 0 < 256) × ((rests : List ℕ) × Linked rests (now kin) count) ⌝ }
+    ensures { λ r. ⌜ ((g : Given) (x : State) → Tells g (now (graph .entry)) (now (copies .entry)) → Kept x (slotsIn list) n (now (ids .entry)) (now (kin .entry)) (now (numbers .entry)) count
         → r ≡ slotIn n (slotFor g s (x .slots))) ⌝ }
 {
     if !tries_slots(s) {
@@ -136,7 +137,7 @@ pub fn slot_for(
         s.id as usize,
         s.owner,
         ids,
-        owners,
+        kin,
         numbers,
         count,
         &mut seen,

@@ -9,7 +9,7 @@ ghost use Rattle.storages.specs.Storage.{tries};
 ghost use Rattle.slots.specs.Slots.{slotsIn};
 ghost use Rattle.places.specs.Legal.{FixedSmall};
 ghost use Rattle.places.specs.Place.{Given, State, recordAt, choose, takeRoom, step};
-ghost use Rattle.turns.specs.Held.{Tells, Held, listAfter, countAfter, TurnedBy};
+ghost use Rattle.turns.specs.Held.{Tells, linkedAt, Held, listAfter, countAfter, TurnedBy};
 use crate::marks::slot_for;
 use places::choose::Chosen;
 use places::choose::choose;
@@ -54,10 +54,20 @@ fn put_record(out: &mut [u8], at: usize, id: u16, p: Placement)
     put_u16(out, at + 6, b_of(p));
 }
 
-// What is kept of a placed storage, the i-th: its id, its owner, its slot's number, and its result record.
+// The i-th storage leads to the last one before it whose owner has the same remainder, and is the last from now on.
+fn link(kin: &mut [u16], i: usize, owner: u16)
+    requires { ⌜ (i < 256) × (length (now kin) ≡ 512) ⌝ }
+    ensures { λ _. ⌜ now (kin .exit) ≡ linkedAt (now (kin .entry)) i (owner % 256) ⌝ }
+{
+    let b = 256 + (owner % 256) as usize;
+    kin[i] = kin[b];
+    kin[b] = (i + 1) as u16;
+}
+
+// What is kept of a placed storage, the i-th: its id, its link, its slot's number, and its result record.
 fn note(
     ids: &mut [u16],
-    owners: &mut [u16],
+    kin: &mut [u16],
     numbers: &mut [u16],
     out: &mut [u8],
     i: usize,
@@ -65,12 +75,12 @@ fn note(
     number: usize,
     p: Placement,
 )
-    requires { ⌜ (i < 256) × (number ≤ 256) × (length (now ids) ≡ 256) × (length (now owners) ≡ 256) × (length (now numbers) ≡ 256) × (length (now out) ≡ 2048) ⌝ }
-    ensures { λ _. ⌜ (now (ids .exit) ≡ set (now (ids .entry)) i (s .id)) × (now (owners .exit) ≡ set (now (owners .entry)) i (s .owner))
+    requires { ⌜ (i < 256) × (number ≤ 256) × (length (now ids) ≡ 256) × (length (now kin) ≡ 512) × (length (now numbers) ≡ 256) × (length (now out) ≡ 2048) ⌝ }
+    ensures { λ _. ⌜ (now (ids .exit) ≡ set (now (ids .entry)) i (s .id)) × (now (kin .exit) ≡ linkedAt (now (kin .entry)) i (s .owner % 256))
         × (now (numbers .exit) ≡ set (now (numbers .entry)) i number) × (now (out .exit) ≡ W.put (now (out .entry)) (i * 8) (recordAt (s .id) p)) ⌝ }
 {
     ids[i] = s.id;
-    owners[i] = s.owner;
+    link(kin, i, s.owner);
     numbers[i] = number as u16;
     put_record(out, i * 8, s.id, p);
 }
@@ -99,22 +109,22 @@ fn take_own(
     app: &mut [u8],
     work: &mut [u8],
     ids: &mut [u16],
-    owners: &mut [u16],
+    kin: &mut [u16],
     numbers: &mut [u16],
     out: &mut [u8],
     i: usize,
 ) -> Verdict
-    requires { ⌜ (length (now ids) ≡ 256) × (length (now owners) ≡ 256) × (length (now numbers) ≡ 256) × (length (now out) ≡ 2048) × (length (now app) ≤ 256) × (length (now work) ≤ 512) × (i < 256) × (s .id < 256)
+    requires { ⌜ (length (now ids) ≡ 256) × (length (now kin) ≡ 512) × (length (now numbers) ≡ 256) × (length (now out) ≡ 2048) × (length (now app) ≤ 256) × (length (now work) ≤ 512) × (i < 256) × (s .id < 256)
         × FixedSmall (s .len) (s .fixed) × (n ≤ 256) ⌝ }
     ensures { λ r. ⌜ ((g : Given) (x : State) (list : List Slot) → length list ≡ 256 → g .lo ≡ 0 → g .hi ≡ length (now (app .entry))
-        → Held x (now (app .entry)) (now (work .entry)) list n (now (ids .entry)) (now (owners .entry)) (now (numbers .entry)) (now (out .entry)) i
-        → TurnedBy (takeRoom s x (choose g s (x .maps))) r (now (app .exit)) (now (work .exit)) (listAfter list n s r) (countAfter n r) (now (ids .exit)) (now (owners .exit)) (now (numbers .exit)) (now (out .exit)) (i + 1)) ⌝ }
+        → Held x (now (app .entry)) (now (work .entry)) list n (now (ids .entry)) (now (kin .entry)) (now (numbers .entry)) (now (out .entry)) i
+        → TurnedBy (takeRoom s x (choose g s (x .maps))) r (now (app .exit)) (now (work .exit)) (listAfter list n s r) (countAfter n r) (now (ids .exit)) (now (kin .exit)) (now (numbers .exit)) (now (out .exit)) (i + 1)) ⌝ }
 {
     match choose(s, app, work, 0, app.len()) {
         Chosen::Refused(r) => Verdict::Refused(r),
         Chosen::Spot(p) => {
             take_room(app, work, room_of(s.len, p));
-            note(ids, owners, numbers, out, i, s, number_for(n, s), p);
+            note(ids, kin, numbers, out, i, s, number_for(n, s), p);
             opens(s, p)
         }
     }
@@ -130,21 +140,21 @@ pub fn place_one(
     app: &mut [u8],
     work: &mut [u8],
     ids: &mut [u16],
-    owners: &mut [u16],
+    kin: &mut [u16],
     numbers: &mut [u16],
     out: &mut [u8],
     i: usize,
 ) -> Verdict
-    requires { ⌜ (length (now graph) ≡ 1024) × (length (now copies) ≡ 1024) × (length (now ids) ≡ 256) × (length (now owners) ≡ 256) × (length (now numbers) ≡ 256) × (length (now out) ≡ 2048) × (length (now app) ≤ 256) × (length (now work) ≤ 512) × (i < 256) × (s .id < 256)
-        × FixedSmall (s .len) (s .fixed) × ((x : State) × Held x (now app) (now work) (slotsIn list) n (now ids) (now owners) (now numbers) (now out) i) ⌝ }
+    requires { ⌜ (length (now graph) ≡ 1024) × (length (now copies) ≡ 1024) × (length (now ids) ≡ 256) × (length (now kin) ≡ 512) × (length (now numbers) ≡ 256) × (length (now out) ≡ 2048) × (length (now app) ≤ 256) × (length (now work) ≤ 512) × (i < 256) × (s .id < 256)
+        × FixedSmall (s .len) (s .fixed) × ((x : State) × Held x (now app) (now work) (slotsIn list) n (now ids) (now kin) (now numbers) (now out) i) ⌝ }
     ensures { λ r. ⌜ ((g : Given) (x : State) → Tells g (now (graph .entry)) (now (copies .entry)) → g .lo ≡ 0 → g .hi ≡ length (now (app .entry))
-        → Held x (now (app .entry)) (now (work .entry)) (slotsIn list) n (now (ids .entry)) (now (owners .entry)) (now (numbers .entry)) (now (out .entry)) i
-        → TurnedBy (step g s x) r (now (app .exit)) (now (work .exit)) (listAfter (slotsIn list) n s r) (countAfter n r) (now (ids .exit)) (now (owners .exit)) (now (numbers .exit)) (now (out .exit)) (i + 1)) ⌝ }
+        → Held x (now (app .entry)) (now (work .entry)) (slotsIn list) n (now (ids .entry)) (now (kin .entry)) (now (numbers .entry)) (now (out .entry)) i
+        → TurnedBy (step g s x) r (now (app .exit)) (now (work .exit)) (listAfter (slotsIn list) n s r) (countAfter n r) (now (ids .exit)) (now (kin .exit)) (now (numbers .exit)) (now (out .exit)) (i + 1)) ⌝ }
 {
-    let k = slot_for(list, n, s, graph, copies, ids, owners, numbers, i);
+    let k = slot_for(list, n, s, graph, copies, ids, kin, numbers, i);
     if k < n {
-        note(ids, owners, numbers, out, i, s, k, placement_at(list, k));
+        note(ids, kin, numbers, out, i, s, k, placement_at(list, k));
         return Verdict::Placed;
     }
-    take_own(n, s, app, work, ids, owners, numbers, out, i)
+    take_own(n, s, app, work, ids, kin, numbers, out, i)
 }

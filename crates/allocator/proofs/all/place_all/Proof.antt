@@ -1,7 +1,7 @@
 -- `place_all` meets its contract. The invariant: the storages still ahead, placed from the state that the words stand for, come to what all of them come to
 -- from the start. Each turn takes one record; at the end none is ahead. Assumes nothing.
 use Prim.Native.Nat.{_-_, _<_}
-use mathlib.Core.Path.{sym, _∙_}
+use mathlib.Core.Path.{sym, ap, _∙_}
 use mathlib.Core.Logic.{⊎-elim}
 use native.Mathlib.Omega.{arith}
 use lib.ListN.{length}
@@ -12,11 +12,11 @@ use Rattle.allocator.proofs.all.place_all.Statement.{statement}
 use Rattle.allocator.proofs.all.place_all.Tie as tie
 
 abbrev Inv-loop : tie.InvT-loop
-Inv-loop file graph copies app₀ work₀ ids₀ owners₀ numbers₀ out₀ list₀ n₀ at₀ i₀ app work ids owners numbers out list n at i =
-    Going file graph copies app₀ work₀ app work list n ids owners numbers out at i
+Inv-loop file graph copies app₀ work₀ ids₀ kin₀ numbers₀ out₀ list₀ n₀ at₀ i₀ app work ids kin numbers out list n at i =
+    Going file graph copies app₀ work₀ app work list n ids kin numbers out at i
 
 abbrev μ-loop : tie.MeasureT-loop
-μ-loop file graph copies app₀ work₀ ids₀ owners₀ numbers₀ out₀ list₀ n₀ at₀ i₀ app work ids owners numbers out list n at i =
+μ-loop file graph copies app₀ work₀ ids₀ kin₀ numbers₀ out₀ list₀ n₀ at₀ i₀ app work ids kin numbers out list n at i =
     length file - at
 
 no-slots-requires : tie.Need-no-slots-requires Inv-loop μ-loop
@@ -60,7 +60,7 @@ place-one-requires c κs =
       a .pre .2,
       a .pre .3,
       v .ids-long,
-      v .owners-long,
+      v .kin-long,
       v .numbers-long,
       v .out-long,
       omega (arith, a .pre .4, v .app-long),
@@ -134,7 +134,7 @@ same-length-4 : tie.Need-same-length-4 Inv-loop μ-loop
 same-length-4 c =
     let d = c .before .before .before .before .before .before .before .before in
     let l = d .before .before .before .before .before .before .before .before .before .before .before .before .before .before .before .before .before .before .before in
-    d .owners .given ∙ l .loop .inv .owners-long ∙ sym (l .before .before .before .before .before .before .before .before .before .before .before .pre .7)
+    d .kin .given ∙ l .loop .inv .kin-long ∙ sym (ap length (l .before .before .before .before .before .before .before .before .before .before .before .pre .7))
 
 same-length-5 : tie.Need-same-length-5 Inv-loop μ-loop
 same-length-5 c =
@@ -200,7 +200,7 @@ loop-again c =
     ⊎-elim (λ w. placed-follows (l .loop .list) (l .loop .n) s v (c .match .list) (c .match .n) (l .loop .inv .pages) (l .loop .inv .full) (w .1 .given .1) (w .2) (w .3))
     (λ w. opened-follows (l .loop .list) (l .loop .n) s v (c .match .list) (c .match .n) (l .loop .inv .pages) (l .loop .inv .full) few _ _ _ _ (w .1 .given .1) (w .4 .ensures) (w .5 .ensures) (w .6) (w .7)) (c .match .came) in
     going-on (l .loop .inv) _ _ (z .before .tail-of2 .ensures .0) (z .storage-at .ensures) q v _ _ _ _ _ _ (n .place-one .ensures) (c .match .list) (c .match .n) follows
-    (d .before .before .before .before .before .before .before .before .before .before .app .given) (d .before .before .before .before .before .before .before .before .work .given) (d .before .before .before .before .before .before .ids .given) (d .before .before .before .before .owners .given) (d .before .before .numbers .given) (d .out .given)
+    (d .before .before .before .before .before .before .before .before .before .before .app .given) (d .before .before .before .before .before .before .before .before .work .given) (d .before .before .before .before .before .before .ids .given) (d .before .before .before .before .kin .given) (d .before .before .numbers .given) (d .out .given)
 
 same-length-7 : tie.Need-same-length-7 Inv-loop μ-loop
 same-length-7 c = let l = c .before .before .before in l .loop .inv .app-long
@@ -212,7 +212,7 @@ same-length-9 : tie.Need-same-length-9 Inv-loop μ-loop
 same-length-9 c = let l = c .before .before .before in l .loop .inv .ids-long ∙ sym (l .before .before .before .before .before .before .before .before .before .before .before .pre .6)
 
 same-length-10 : tie.Need-same-length-10 Inv-loop μ-loop
-same-length-10 c = let l = c .before .before .before in l .loop .inv .owners-long ∙ sym (l .before .before .before .before .before .before .before .before .before .before .before .pre .7)
+same-length-10 c = let l = c .before .before .before in l .loop .inv .kin-long ∙ sym (ap length (l .before .before .before .before .before .before .before .before .before .before .before .pre .7))
 
 same-length-11 : tie.Need-same-length-11 Inv-loop μ-loop
 same-length-11 c = let l = c .before .before .before in l .loop .inv .numbers-long ∙ sym (l .before .before .before .before .before .before .before .before .before .before .before .pre .8)

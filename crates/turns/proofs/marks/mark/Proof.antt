@@ -1,83 +1,122 @@
--- `mark` meets its contract. The invariant: the rows are marked of the first i placed storages; one of another owner is passed over.
+-- `mark` meets its contract. The invariant: what the rows tell, together with the storages that the links still lead to, is what all come to; each link leads down.
 -- Assumes nothing.
-use mathlib.Core.Path.{_∙_}
-use mathlib.Core.Logic.{⊎-elim}
-use Prim.Native.Nat.{_-_, _≤_}
+use mathlib.Core.Path.{refl, sym, ap, _∙_}
+use mathlib.Core.List.{List}
+use Prim.Native.Nat.{ℕ, _+_, _-_, _%_}
 use native.Mathlib.Omega.{arith}
-use borrow.Author.Needs.{needs}
-use Rattle.turns.specs.Held.{Marked}
-use Rattle.turns.proofs.Marking.{mark-start, mark-next, mark-past, mark-end}
+use lib.ListN.{length}
+use Rattle.turns.specs.Held.{Linked}
+use Rattle.turns.proofs.Marking.{Left, mark-start, mark-next, mark-end, leads-down}
 use Rattle.turns.proofs.marks.mark.Statement.{statement}
 use Rattle.turns.proofs.marks.mark.Tie as tie
 
 abbrev Inv-loop : tie.InvT-loop
-Inv-loop graph copies id owner ids owners numbers count seen₀ barred₀ partners₀ i₀ seen barred partners i = (i ≤ count) × Marked graph copies id owner ids owners numbers i seen barred partners
+Inv-loop graph copies id owner ids kin numbers count seen₀ barred₀ partners₀ next₀ seen barred partners next =
+    (rests : List ℕ) → Linked rests kin count → Left graph copies id (owner % 256) ids rests numbers count next seen barred partners
 
 abbrev μ-loop : tie.MeasureT-loop
-μ-loop graph copies id owner ids owners numbers count seen₀ barred₀ partners₀ i₀ seen barred partners i = count - i
+μ-loop graph copies id owner ids kin numbers count seen₀ barred₀ partners₀ next₀ seen barred partners next = next
+
+cast-next : tie.Need-cast-next Inv-loop μ-loop
+cast-next c = omega arith
+
+add-next : tie.Need-add-next Inv-loop μ-loop
+add-next c = omega arith
+
+mul-next : tie.Need-mul-next Inv-loop μ-loop
+mul-next c = omega arith
+
+shared-slice-read-next : tie.Need-shared-slice-read-next Inv-loop μ-loop
+shared-slice-read-next c = omega arith
+
+cast-next-2 : tie.Need-cast-next-2 Inv-loop μ-loop
+cast-next-2 c = omega (arith, c .shared-slice-known6 .given (256 + c .before .before .before .before .before .before .before .before .before .args .owner % 256))
 
 loop-holds : tie.Need-loop-holds Inv-loop μ-loop
 loop-holds c =
-    let start = c .before .before .before .before .before .before .before .before in
-    (omega arith, mark-start _ _ _ _ _ _ _ _ _ _ (start .pre .8) (start .pre .9) (start .pre .10))
+    let start = c .before .before .before .before .before .before .before .before .before in
+    λ rests linked. mark-start _ _ _ _ _ _ _ _ _ _ _ _ (linked .lasts _ (omega arith)) (start .pre .8) (start .pre .9) (start .pre .10)
 
-mul-if1 : tie.Need-mul-if1 Inv-loop μ-loop
-mul-if1 c = omega arith
-
-shared-slice-read-if1 : tie.Need-shared-slice-read-if1 Inv-loop μ-loop
-shared-slice-read-if1 c = omega arith
+sub-i : tie.Need-sub-i Inv-loop μ-loop
+sub-i c = omega arith
 
 mul-mark-one : tie.Need-mul-mark-one Inv-loop μ-loop
-mul-mark-one c = omega arith
+mul-mark-one c =
+    let k = c .before .before .before .before .before .before .before .before .before .before .before .pre .11 in
+    omega (arith, c .before .loop .inv (k .0) (k .1) .within)
 
 shared-slice-read-mark-one : tie.Need-shared-slice-read-mark-one Inv-loop μ-loop
-shared-slice-read-mark-one c = omega arith
+shared-slice-read-mark-one c =
+    let k = c .before .before .before .before .before .before .before .before .before .before .before .before .pre .11 in
+    omega (arith, c .before .before .loop .inv (k .0) (k .1) .within)
 
 cast-mark-one : tie.Need-cast-mark-one Inv-loop μ-loop
-cast-mark-one c = omega (arith, c .shared-slice-known7 .given (c .before .before .before .before .loop .i))
+cast-mark-one c = omega (arith, c .shared-slice-known7 .given (c .before .before .loop .next - 1))
 
 mul-mark-one-2 : tie.Need-mul-mark-one-2 Inv-loop μ-loop
-mul-mark-one-2 c = omega arith
+mul-mark-one-2 c =
+    let k = c .before .before .before .before .before .before .before .before .before .before .before .before .pre .11 in
+    omega (arith, c .before .before .loop .inv (k .0) (k .1) .within)
 
 shared-slice-read-mark-one-2 : tie.Need-shared-slice-read-mark-one-2 Inv-loop μ-loop
-shared-slice-read-mark-one-2 c = omega arith
+shared-slice-read-mark-one-2 c =
+    let k = c .before .before .before .before .before .before .before .before .before .before .before .before .before .pre .11 in
+    omega (arith, c .before .before .before .loop .inv (k .0) (k .1) .within)
 
 cast-mark-one-2 : tie.Need-cast-mark-one-2 Inv-loop μ-loop
-cast-mark-one-2 c = omega (arith, c .shared-slice-known8 .given (c .before .before .before .before .before .loop .i))
+cast-mark-one-2 c = omega (arith, c .shared-slice-known8 .given (c .before .before .before .loop .next - 1))
 
 mark-one-requires : tie.Need-mark-one-requires Inv-loop μ-loop
 mark-one-requires c κs =
-    let t = c .before .before .before .before .before .before .before in
-    let start = t .before .before .before .before .before .before .before .before .before .before in
-    let m = t .before .loop .inv .1 in
-    (start .pre .0, start .pre .1, start .pre .2, start .pre .7 _ (t .loop-test .taken), m .seen-four, m .barred-four, m .partners-four)
+    let at = c .before .before .before .before .before .before in
+    let p = at .before .before .before .before .before .before .before .before .before .before .pre in
+    let m = at .loop .inv (p .11 .0) (p .11 .1) in
+    (p .0, p .1, p .2, p .7 _ (omega (arith, m .within)), m .seen-four, m .barred-four, m .partners-four)
 
-add-i : tie.Need-add-i Inv-loop μ-loop
-add-i c = omega arith
+mul-next-2 : tie.Need-mul-next-2 Inv-loop μ-loop
+mul-next-2 c =
+    let at = c .before .before .before .before .before .before .before .before .before .before .before .before .before in
+    let k = at .before .before .before .before .before .before .before .before .before .before .pre .11 in
+    omega (arith, at .loop .inv (k .0) (k .1) .within)
+
+shared-slice-read-next-2 : tie.Need-shared-slice-read-next-2 Inv-loop μ-loop
+shared-slice-read-next-2 c =
+    let at = c .before .before .before .before .before .before .before .before .before .before .before .before .before .before in
+    let k = at .before .before .before .before .before .before .before .before .before .before .pre .11 in
+    omega (arith, at .loop .inv (k .0) (k .1) .within)
+
+cast-next-3 : tie.Need-cast-next-3 Inv-loop μ-loop
+cast-next-3 c = omega (arith, c .shared-slice-known9 .given (c .before .before .before .before .before .before .before .before .before .before .before .before .before .before .loop .next - 1))
 
 loop-less : tie.Need-loop-less Inv-loop μ-loop
-loop-less c = omega arith
+loop-less c =
+    let at = c .before .before .before .before .before .before .before .before .before .before .before .before .before .before in
+    let k = at .before .before .before .before .before .before .before .before .before .before .pre .11 in
+    leads-down _ _ _ _ _ _ _ _ (at .loop .inv (k .0) (k .1)) _ (k .1) _ (omega arith)
 
 loop-again : tie.Need-loop-again Inv-loop μ-loop
 loop-again c =
-    let m = c .before .before .before .loop .inv .1 in (
-      omega arith,
-      ⊎-elim (λ w. mark-next _ _ _ _ _ _ _ m (w .0 .taken) _ _ _ (w .13 ∙ w .6 .ensures .0) (w .14 ∙ w .6 .ensures .1) (w .15 ∙ w .6 .ensures .2))
-          (λ w. mark-past _ _ _ _ _ _ _ m (w .0 .left) _ _ _ (w .1) (w .2) (w .3))
-          (c .if1 .came),
-    )
+    let m = c .before .before .before .before .before .before .before .mark-one .ensures in
+    let at = c .before .before .before .before .before .before .before .before .before .before .before .before .before .before in
+    λ rests linked. mark-next _ _ _ _ _ _ _ _ (at .loop .inv rests linked) _ linked _ (omega arith) _ _ _ _ refl (m .0) (m .1) (m .2)
 
 same-length : tie.Need-same-length Inv-loop μ-loop
-same-length c = search needs
+same-length c =
+    let p = c .before .before .before .before .before .before .before .before .before .before .before .pre in
+    c .before .loop .inv (p .11 .0) (p .11 .1) .seen-four ∙ sym (ap length (p .8))
 
 same-length-2 : tie.Need-same-length-2 Inv-loop μ-loop
-same-length-2 c = search needs
+same-length-2 c =
+    let p = c .before .before .before .before .before .before .before .before .before .before .before .pre in
+    c .before .loop .inv (p .11 .0) (p .11 .1) .barred-four ∙ sym (ap length (p .9))
 
 same-length-3 : tie.Need-same-length-3 Inv-loop μ-loop
-same-length-3 c = search needs
+same-length-3 c =
+    let p = c .before .before .before .before .before .before .before .before .before .before .before .pre in
+    c .before .loop .inv (p .11 .0) (p .11 .1) .partners-four ∙ sym (ap length (p .10))
 
 returns : tie.Need-returns Inv-loop μ-loop
-returns c = mark-end _ _ _ _ _ _ _ (c .before .loop .inv .1) (c .before .loop .inv .0) (c .loop-test .left)
+returns c = λ rests linked. mark-end _ _ _ _ _ _ _ _ (c .before .loop .inv rests linked) (c .loop-test .left)
 
 pub mark-spec : {M : Type 1} → statement M
 mark-spec =
@@ -85,9 +124,13 @@ mark-spec =
     (tie.spec
     Inv-loop
     μ-loop
+    cast-next
+    add-next
+    mul-next
+    shared-slice-read-next
+    cast-next-2
     loop-holds
-    mul-if1
-    shared-slice-read-if1
+    sub-i
     mul-mark-one
     shared-slice-read-mark-one
     cast-mark-one
@@ -95,7 +138,9 @@ mark-spec =
     shared-slice-read-mark-one-2
     cast-mark-one-2
     mark-one-requires
-    add-i
+    mul-next-2
+    shared-slice-read-next-2
+    cast-next-3
     loop-less
     loop-again
     same-length

@@ -28,7 +28,9 @@ slice-aggregate-mark-3 : tie.Need-slice-aggregate-mark-3
 slice-aggregate-mark-3 c = search needs
 
 mark-requires : tie.Need-mark-requires
-mark-requires c κs = search needs
+mark-requires c κs =
+    let p = c .before .before .before .before .before .before .before .before .before .before .before .pre in
+    (p .2, p .3, p .1, p .4, p .5, p .6, p .7, p .8, search needs, search needs, search needs, p .9)
 
 slice-aggregate-less-from : tie.Need-slice-aggregate-less-from
 slice-aggregate-less-from c = search needs
@@ -54,7 +56,7 @@ returns-2 c =
     let start = e .before .before .before .before .before .before .before in
     let shares = sym (e .before .tries-slots .ensures) ∙ not-false _ (e .if1 .left) in
     λ g x t k.
-    seek-closed g _ x _ _ _ _ _ _ _ _ t k _ _ _ _ (m .mark .ensures) (l .less-from .ensures) (start .pre .1) (start .pre .0) shares
+    seek-closed g _ x _ _ _ _ _ _ _ _ t k _ _ _ _ (m .mark .ensures _ (k .linked)) (l .less-from .ensures) (start .pre .1) (start .pre .0) shares
     (sym (a .any-marked .ensures) ∙ not-true _ (c .if2 .taken))
 
 slice-aggregate-any-marked-2 : tie.Need-slice-aggregate-any-marked-2
@@ -81,7 +83,7 @@ returns-3 c =
     let start = e .before .before .before .before .before .before .before in
     let shares = sym (e .before .tries-slots .ensures) ∙ not-false _ (e .if1 .left) in
     λ g x t k.
-    seek-copied g _ x _ _ _ _ _ _ _ _ t k _ _ _ _ (m .mark .ensures) (l .less-from .ensures) (start .pre .1) (start .pre .0) _ shares (f .search .ensures)
+    seek-copied g _ x _ _ _ _ _ _ _ _ t k _ _ _ _ (m .mark .ensures _ (k .linked)) (l .less-from .ensures) (start .pre .1) (start .pre .0) _ shares (f .search .ensures)
     (c .if4 .taken)
 
 slice-aggregate-search-3 : tie.Need-slice-aggregate-search-3
@@ -103,7 +105,7 @@ returns-4 c =
     let start = e .before .before .before .before .before .before .before in
     let shares = sym (e .before .tries-slots .ensures) ∙ not-false _ (e .if1 .left) in
     λ g x t k.
-    let fitting = seek-fitting g _ x _ _ _ _ _ _ _ _ t k _ _ _ _ (m .mark .ensures) (l .less-from .ensures) (start .pre .1) (start .pre .0) in
+    let fitting = seek-fitting g _ x _ _ _ _ _ _ _ _ t k _ _ _ _ (m .mark .ensures _ (k .linked)) (l .less-from .ensures) (start .pre .1) (start .pre .0) in
     ⊎-elim (λ w. fitting _ shares (w .3 .ensures) (w .4 .left) _ (c .search2 .ensures))
     (λ w. fitting _ shares (unmarked-none _ _ _ _ _ (sym (a .any-marked2 .ensures) ∙ w .left)) (omega arith) _ (c .search2 .ensures))
     (o .if3 .came)

@@ -19,7 +19,7 @@ slot-for-requires : tie.Need-slot-for-requires
 slot-for-requires c κs =
     let p = c .before .before .before .before .before .before .before .before .before .before .before .pre in
     let k = p .11 .1 .kept in
-    (omega (arith, k .few), p .9, p .0, p .1, p .2, p .3, p .4, omega arith, k .low)
+    (omega (arith, k .few), p .9, p .0, p .1, p .2, p .3, p .4, omega arith, k .low, (_, k .linked))
 
 placement-at-requires : tie.Need-placement-at-requires
 placement-at-requires c κs = search needs
@@ -48,7 +48,7 @@ returns c =
     λ g x t lo hi h. (
       joinSlot (a .args .s) x (f .slot-for .result),
       joins g (a .args .s) x _ _ (h .kept .many) (f .slot-for .ensures g x t (h .kept)) (j .if1 .taken),
-      joined-held (a .args .s) x _ _ _ _ _ _ _ _ _ h (a .pre .2) (a .pre .3) (a .pre .4) (a .pre .8) (a .pre .9) _ _ _ _ _ _
+      joined-held (a .args .s) x _ _ _ _ _ _ _ _ _ h (a .pre .2) (a .pre .4) (a .pre .8) (a .pre .9) _ _ _ _ _ _
           (n .note .ensures .0) (n .note .ensures .1) (n .note .ensures .2) (n .note .ensures .3) (j .if1 .taken)
           (joins-owner g (a .args .s) x _ _ (h .kept .many) (f .slot-for .ensures g x t (h .kept)) (j .if1 .taken)) (n .before .placement-at .ensures),
     )
