@@ -19,6 +19,7 @@ use Rattle.storages.specs.declared.Storage.{Storage}
 use Rattle.storages.specs.Storage.{stored}
 use Rattle.storages.specs.File.{opensStorage, storagesBy, declared}
 use Rattle.storages.proofs.Declared.{opens-inside}
+use Rattle.maps.specs.Maps.{TakenBelow}
 use Rattle.slots.specs.declared.Slot.{Slot}
 use Rattle.slots.specs.declared.Page.{Page}
 use Rattle.slots.specs.Slots.{noPage, slotsIn, opened}
@@ -26,11 +27,13 @@ use Rattle.slots.proofs.Pages.{Full, full-none, full-put, number-put}
 use Rattle.turns.specs.declared.turn.Verdict.{Verdict}
 use Rattle.turns.specs.declared.turn.Verdict.the-variants.{Placed, Opened, Refused}
 use Rattle.allocator.specs.declared.all.Allocated.the-variants as allocated
+use Rattle.places.specs.declared.memory.Floor.{Floor}
+use Rattle.places.specs.Memory.{Solid}
 use Rattle.places.specs.Legal.{FixedSmall}
 use Rattle.places.specs.Place.{Given, State, Outcome, done, refused, step, placeFrom, recordsOf}
 use Rattle.turns.specs.Held.{Tells, Held, listAfter, countAfter, TurnedBy}
 use Rattle.allocator.specs.All.{Allocates, Fit}
-use Rattle.turns.proofs.Turns.{place-next, place-refused}
+use Rattle.turns.proofs.Turns.{After, Over, place-next, place-refused, step-over}
 use Rattle.turns.proofs.Linking.{linked-none}
 use Rattle.allocator.proofs.Fitting.{fits-small}
 
@@ -45,8 +48,9 @@ told graph copies hi = record { meets = λ i j. memberAt graph (i * 4) j; copies
 told-tells : (graph copies : List ℕ) (hi : ℕ) → Tells (told graph copies hi) graph copies
 told-tells graph copies hi = record { meeting = λ i j a b. refl; copying = λ i j a b. refl }
 
--- The loop's invariant: the arrays and the pages of slots keep their lengths, every record ahead fits and there is an entry for it, and placing comes to the same from here.
-pub record Going (file graph copies app₀ wrk₀ app wrk : List ℕ) (list : List Page) (n : ℕ) (ids kin numbers out : List ℕ) (at i : ℕ) : Type 0 where
+-- The loop's invariant: the arrays and the pages of slots keep their lengths, the floor is solid, every record ahead fits and there is an entry for it, and placing
+-- comes to the same from here.
+pub record Going (file graph copies app₀ wrk₀ app wrk : List ℕ) (list : List Page) (n : ℕ) (ids kin numbers out : List ℕ) (at i : ℕ) (floor : Floor) : Type 0 where
   pub inside : at ≤ length file
   pub app-long : length app ≡ length app₀
   pub wrk-long : length wrk ≡ length wrk₀
@@ -56,6 +60,7 @@ pub record Going (file graph copies app₀ wrk₀ app wrk : List ℕ) (list : Li
   pub out-long : length out ≡ 2048
   pub pages : length list ≡ 16
   pub full : Full list
+  pub solid : Solid floor app wrk
   pub fuel : ℕ
   pub enough : length file ≤ at + fuel
   pub fits : All (λ x. R.storageFits one x ≡ true) (storagesBy fuel (drop at file))
@@ -63,6 +68,10 @@ pub record Going (file graph copies app₀ wrk₀ app wrk : List ℕ) (list : Li
   pub held : (g : Given) → Tells g graph copies → g .lo ≡ 0 → g .hi ≡ length app₀
       → (x : State) × Held x app wrk (slotsIn list) n ids kin numbers out i
       × (placeFrom g (map stored (storagesBy fuel (drop at file))) x ≡ placeFrom g (map stored (declared file)) (begun app₀ wrk₀))
+
+-- A floor of the words is one of the state that they stand for, and the other way.
+same-solid : (f : Floor) (app wrk app′ wrk′ : List ℕ) → app ≡ app′ → wrk ≡ wrk′ → Solid f app wrk → Solid f app′ wrk′
+same-solid f app wrk app′ wrk′ p q h = (subst (λ (m : List ℕ). TakenBelow m (f .app)) p (h .0), subst (λ (m : List ℕ). TakenBelow m (f .work)) q (h .1))
 
 -- ---- The start
 
@@ -92,7 +101,7 @@ module _ (file graph copies app wrk : List ℕ) (list : List Page) (ids kin numb
   }
 
   pub going-start : 7 ≤ length file → Fit file → length ids ≡ 256 → kin ≡ replicate 512 0 → length numbers ≡ 256 → out ≡ laid 2048 [] [] → list ≡ replicate 16 noPage
-      → Going file graph copies app wrk app wrk list 0 ids kin numbers out 7 0
+      → Going file graph copies app wrk app wrk list 0 ids kin numbers out 7 0 (record { app = 0; work = 0 })
   unfolding declared
   going-start h fit li clear ln e none = record {
     inside = h;
@@ -104,6 +113,7 @@ module _ (file graph copies app wrk : List ℕ) (list : List Page) (ids kin numb
     out-long = clear-long out e;
     pages = ap length none;
     full = subst Full (sym none) (full-none 16);
+    solid = (λ j l. absurd (not-suc-le-zero l), λ j l. absurd (not-suc-le-zero l));
     fuel = length file;
     enough = omega arith;
     fits = fit .each;
@@ -156,8 +166,8 @@ front-cons file at zero h e o = absurd (omega (arith, opens-inside file at h o))
 front-cons file at (suc k) h e o =
     (k, omega arith, pick-yes (opensStorage (drop at file)) _ _ o ∙ ap (λ (t : List ℕ). R.storageIn (drop at file) ∷ storagesBy k t) (drop-drop 16 at file))
 
-module _ {file graph copies app₀ wrk₀ app wrk : List ℕ} {list : List Page} {n : ℕ} {ids kin numbers out : List ℕ} {at i : ℕ}
-    (s : Going file graph copies app₀ wrk₀ app wrk list n ids kin numbers out at i) where
+module _ {file graph copies app₀ wrk₀ app wrk : List ℕ} {list : List Page} {n : ℕ} {ids kin numbers out : List ℕ} {at i : ℕ} {floor : Floor}
+    (s : Going file graph copies app₀ wrk₀ app wrk list n ids kin numbers out at i floor) where
   -- The words stand for a state, since they tell what is given themselves.
   pub going-held : (x : State) × Held x app wrk (slotsIn list) n ids kin numbers out i
   going-held = let h = s .held (told graph copies (length app₀)) (told-tells graph copies (length app₀)) refl refl in (h .0, h .1)
@@ -200,10 +210,20 @@ module _ {file graph copies app₀ wrk₀ app wrk : List ℕ} {list : List Page}
           go Placed k e = e
           go (Opened p) k e = e
 
-      pub going-on : (list′ : List Page) (n′ : ℕ) → Follows list n z v list′ n′ → length app′ ≡ length app → length wrk′ ≡ length wrk → length ids′ ≡ length ids
+      -- What was taken still is.
+      still-solid : (list′ : List Page) (n′ : ℕ) → Follows list n z v list′ n′ → (up : Floor) → Solid up app wrk → Solid up app′ wrk′
+      still-solid list′ n′ f up b =
+          let g = told graph copies (length app₀) in
+          let t = told-tells graph copies (length app₀) in
+          let h = s .held g t refl refl in
+          let q = leaves list′ n′ f (step g z (h .0)) (turn g (h .0) t refl (sym (s .app-long)) (h .1)) in
+          let before : Over up (h .0) = same-solid up app wrk _ _ (h .1 .app-is) (h .1 .wrk-is) b in
+          same-solid up _ _ app′ wrk′ (sym (q .2 .app-is)) (sym (q .2 .wrk-is)) (subst (After (Over up)) (q .1) (step-over g up z (h .0) before))
+
+      pub going-on : (list′ : List Page) (n′ : ℕ) → Follows list n z v list′ n′ → (up : Floor) → Solid up app wrk → length app′ ≡ length app → length wrk′ ≡ length wrk → length ids′ ≡ length ids
           → length kin′ ≡ length kin → length numbers′ ≡ length numbers → length out′ ≡ length out
-          → Going file graph copies app₀ wrk₀ app′ wrk′ list′ n′ ids′ kin′ numbers′ out′ (at + 16) (i + 1)
-      going-on list′ n′ f la lw li lr ln lo =
+          → Going file graph copies app₀ wrk₀ app′ wrk′ list′ n′ ids′ kin′ numbers′ out′ (at + 16) (i + 1) up
+      going-on list′ n′ f up b la lw li lr ln lo =
           let k = front-cons file at (s .fuel) (s .inside) (s .enough) o in
           record {
             inside = opens-inside file at (s .inside) o;
@@ -215,6 +235,7 @@ module _ {file graph copies app₀ wrk₀ app wrk : List ℕ} {list : List Page}
             out-long = lo ∙ s .out-long;
             pages = f .3;
             full = f .4;
+            solid = still-solid list′ n′ f up b;
             fuel = k .0;
             enough = k .1;
             fits = subst (All (λ x. R.storageFits one x ≡ true)) (k .2) (s .fits) .1;

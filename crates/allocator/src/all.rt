@@ -14,6 +14,8 @@ ghost use Rattle.allocator.specs.All.{Fit, Allocates};
 use fields::bytes::tail_of;
 use fields::bytes::u16_at;
 use maps::take_bytes;
+use places::memory::Floor;
+use places::memory::raise;
 use records::Refusal;
 use slots::no_slots;
 use slots::put_page;
@@ -51,8 +53,10 @@ pub fn place_all(
     let mut n = 0;
     let mut at = 7;
     let mut i = 0;
+    let mut floor = Floor { app: 0, work: 0 };
     while opens_storage(tail_of(file, at)) {
         let s = storage_at(tail_of(file, at));
+        floor = raise(floor, app, work);
         match place_one(
             list,
             n,
@@ -61,6 +65,7 @@ pub fn place_all(
             copies,
             app,
             work,
+            floor,
             ids,
             kin,
             numbers,

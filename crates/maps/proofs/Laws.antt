@@ -10,7 +10,7 @@ use native.Mathlib.Nat.{not-suc-le-zero, le-of-suc-le-suc}
 use native.Mathlib.Decide.{ℕ-discrete, decLe, decLt}
 use lib.Dec.{T, eqb, ltb, leb, leb·suc-suc}
 use lib.Bits.{bitOr}
-use lib.ListN.{length, getD, set, drop, length-set, length-drop}
+use lib.ListN.{length, getD, set, drop, length-set, length-drop, List·getD-eq-default}
 use lib.Seq.{getD-set-same, getD-set-other, getD-drop}
 use borrow.Author.Tests.{eqb-true, eq-eqb, ltb-true, ltb-false, lt-ltb, le-ltb, leb-true, le-leb}
 use Rattle.rows.specs.Row.{bit}
@@ -20,7 +20,7 @@ use Rattle.maps.specs.declared.Found.{Found}
 use Rattle.maps.specs.declared.Found.the-variants.{Nothing, At}
 use Rattle.maps.specs.declared.FoundBit.{FoundBit}
 use Rattle.maps.specs.declared.FoundBit.the-variants.{NoBit, BitAt}
-use Rattle.maps.specs.Maps.{NextClear, clears, later, firstWindow, lowFrom, lowClear, orBelow, highBit, clearBytes, clearBit, fill, setBit}
+use Rattle.maps.specs.Maps.{TakenBelow, NextClear, clears, later, firstWindow, lowFrom, lowClear, orBelow, highBit, clearBytes, clearBit, fill, setBit}
 
 -- ---- Windows
 
@@ -59,6 +59,28 @@ clear-in n o m l h = clears-in n (drop o m) (omega (arith, length-drop o m)) (λ
 abbrev pub NoneBefore : ℕ → List ℕ → ℕ → Type 0
 NoneBefore n m o = (j : ℕ) → j < o → T (clears n (drop j m)) → ⊥
 
+-- A window that is clear begins with a clear byte, so that none begins among taken ones.
+clear-first : (n o : ℕ) (m : List ℕ) → 0 < n → T (clears n (drop o m)) → getD m o 0 ≡ 0
+clear-first n o m z t = let e : o + 0 ≡ o = omega arith in rw e at (clear-out n o m t 0 z)
+
+pub none-taken : (n o : ℕ) (m : List ℕ) → 0 < n → TakenBelow m o → NoneBefore n m o
+none-taken n o m z h j i t = h j i (clear-first n j m z t)
+
+-- What is taken lies inside; and the next clear byte is one more below which all is taken.
+pub taken-inside : (m : List ℕ) (o : ℕ) → TakenBelow m o → o ≤ length m
+taken-inside m o h = go (decLe o (length m))
+  where
+    go : Dec (o ≤ length m) → o ≤ length m
+    go (yes x) = x
+    go (no x) = absurd (h (length m) (omega arith) (List·getD-eq-default m 0 (omega arith)))
+
+pub taken-next : (m : List ℕ) (o r : ℕ) → TakenBelow m o → NextClear m o r → TakenBelow m r
+taken-next m o r h q j l e = go (decLt j o)
+  where
+    go : Dec (j < o) → ⊥
+    go (yes x) = h j x e
+    go (no x) = q .taken j l (omega arith) e
+
 -- A byte that is not clear lies in each window from o to o + k, so that the search goes on behind it.
 pub none-behind : (n o k : ℕ) (m : List ℕ) → NoneBefore n m o → k < n → (getD m (o + k) 0 ≡ 0 → ⊥) → NoneBefore n m (o + k + 1)
 none-behind n o k m h l b j i t = go (decLt j o)
@@ -74,7 +96,7 @@ none-until n o r m z h q j i t = go (decLt j o)
   where
     go : Dec (j < o) → ⊥
     go (yes x) = h j x t
-    go (no x) = let e : j + 0 ≡ j = omega arith in q .taken j i (omega arith) (rw e at (clear-out n j m t 0 z))
+    go (no x) = q .taken j i (omega arith) (clear-first n j m z t)
 
 -- A map that ends inside the window at o ends inside each later one.
 pub none-short : (n o : ℕ) (m : List ℕ) → NoneBefore n m o → length m < o + n → NoneBefore n m (length m)
@@ -314,6 +336,15 @@ window? o n i (yes p) (yes q) = inl (p, q)
 window? o n i (no p) _ = inr (λ x y. p x)
 window? o n i (yes p) (no q) = inr (λ x y. q y)
 
+-- A byte that is clear afterwards was clear before.
+pub fill-clear : (o n : ℕ) (m : List ℕ) (i : ℕ) → getD (fill o n m) i 0 ≡ 0 → getD m i 0 ≡ 0
+fill-clear o n m i h = go (window? o n i (decLe o i) (decLt i (o + n))) (decLt i (length m))
+  where
+    go : In o n i ⊎ (o ≤ i → i < o + n → ⊥) → Dec (i < length m) → getD m i 0 ≡ 0
+    go (inl x) (yes l) = absurd (omega (arith, h, fill-in o n m i (x .0) (x .1) l))
+    go (inl x) (no l) = List·getD-eq-default m 0 (omega arith)
+    go (inr x) l = sym (fill-out o n m i x) ∙ h
+
 pub fill-keep : (o n : ℕ) (m : List ℕ) (i k : ℕ) → Clear m n o → T (bit (getD m i 0) k) → T (bit (getD (fill o n m) i 0) k)
 fill-keep o n m i k c h = go (window? o n i (decLe o i) (decLt i (o + n)))
   where
@@ -390,3 +421,17 @@ setBit-only o b m i k l h = go (ℕ-discrete i o)
         or (inl x) = inl (subst (λ (x : ℕ). T (bit (getD m x 0) k)) (sym e) x)
         or (inr x) = inr (e, x)
     go (no e) = inl (rw (getD-set-other m o i (bitOr (getD m o 0) (2 ^ b)) 0 e) at h)
+
+pub setBit-clear : (o b : ℕ) (m : List ℕ) (i : ℕ) → getD (setBit o b m) i 0 ≡ 0 → getD m i 0 ≡ 0
+unfolding setBit
+setBit-clear o b m i h = go (ℕ-discrete i o) (decLt i (length m))
+  where
+    byte : ℕ
+    byte = bitOr (getD m o 0) (2 ^ b)
+
+    go : Dec (i ≡ o) → Dec (i < length m) → getD m i 0 ≡ 0
+    go (yes e) (yes l) =
+        let none : byte ≡ 0 = sym (getD-set-same m o byte 0 (omega arith)) ∙ subst (λ (x : ℕ). getD (set m o byte) x 0 ≡ 0) e h in
+        absurd (subst T (ap (λ (x : ℕ). bit x b) none ∙ bit-zero b) (bit-same (getD m o 0) b))
+    go (yes e) (no l) = List·getD-eq-default m 0 (omega arith)
+    go (no e) l = sym (getD-set-other m o i byte 0 e) ∙ h

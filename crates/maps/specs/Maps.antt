@@ -13,6 +13,10 @@ use Rattle.maps.specs.declared.Found.the-variants.{Nothing, At}
 use Rattle.maps.specs.declared.FoundBit.{FoundBit}
 use Rattle.maps.specs.declared.FoundBit.the-variants.{NoBit, BitAt}
 
+-- No byte below `o` is clear.
+abbrev pub TakenBelow : List ℕ → ℕ → Type 0
+TakenBelow m o = (j : ℕ) → j < o → getD m j 0 ≡ 0 → ⊥
+
 -- From `o` on, the first offset whose byte is clear, or the end of the map.
 pub record NextClear (m : List ℕ) (o r : ℕ) : Type 0 where
   pub behind : o ≤ r

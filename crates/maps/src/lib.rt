@@ -1,9 +1,9 @@
 // Occupancy maps: which bits of a memory are taken.
-// Knows bytes; gives the first clear window, the clear bit that a search from the last byte down meets, and the taking of bytes and bits.
+// Knows bytes; gives the next clear byte, the first clear window, the clear bit that a search from the last byte down meets, and the taking of bytes and bits.
 ghost use mathlib.Core.Path.{_≡_};
 ghost use Prim.Native.Nat.{_+_, _≤_, _<_};
 ghost use lib.ListN.{length};
-ghost use Rattle.maps.specs.Maps.{NextClear, firstWindow, FoundIn, lowClear, highBit, BitIn, clearBytes, clearBit, fill, setBit};
+ghost use Rattle.maps.specs.Maps.{TakenBelow, NextClear, firstWindow, FoundIn, lowClear, highBit, BitIn, clearBytes, clearBit, fill, setBit};
 
 // Where a window is, or that there is none.
 pub enum Found {
@@ -18,7 +18,7 @@ pub enum FoundBit {
 }
 
 // The first offset at or after `from` whose byte is 0, or the map's length.
-fn next_clear(map: &[u8], from: usize) -> usize
+pub fn next_clear(map: &[u8], from: usize) -> usize
     requires { ⌜ from ≤ length (now map) ⌝ }
     ensures { λ r. ⌜ NextClear (now (map .entry)) from r ⌝ }
 {
@@ -32,11 +32,13 @@ fn next_clear(map: &[u8], from: usize) -> usize
     o
 }
 
-// The least offset from which n bytes are clear. No window over a byte that is not 0 is, so that the search goes on at the next clear one.
-pub fn first_clear(map: &[u8], n: usize) -> Found
+// The least offset from which n bytes are clear. No window over a byte that is not 0 is, so that the search begins at `from`, below which there are such bytes
+// only, and goes on at the next clear one. A window of no bytes is at offset 0.
+pub fn first_clear(map: &[u8], from: usize, n: usize) -> Found
+    requires { ⌜ TakenBelow (now map) from ⌝ }
     ensures { λ r. ⌜ (r ≡ firstWindow n (now (map .entry))) × FoundIn (length (now (map .entry))) r ⌝ }
 {
-    let mut o = 0;
+    let mut o = if n == 0 { 0 } else { from };
     'search: loop {
         if map.len() <= o {
             break 'search Found::Nothing;

@@ -18,7 +18,7 @@ use Rattle.storages.specs.declared.Room.{Room}
 use Rattle.storages.specs.declared.Room.the-variants.{Nowhere, Bytes, OneBit}
 use Rattle.storages.specs.Room.{same, within}
 use Rattle.maps.specs.Maps.{fill, setBit}
-use Rattle.maps.proofs.Laws.{clear-bytes-out, clear-bit-out, fill-length, fill-keep, fill-has, fill-only, bit-full, setBit-length, setBit-keep, setBit-has, setBit-only}
+use Rattle.maps.proofs.Laws.{clear-bytes-out, clear-bit-out, fill-length, fill-clear, fill-keep, fill-has, fill-only, bit-full, setBit-length, setBit-keep, setBit-has, setBit-only, setBit-clear}
 use Rattle.places.specs.Memory.{Maps, mapOf, putMap, fresh, clearRoom, reserve}
 use Rattle.places.specs.Legal.{sizeOf, Inside, Small}
 
@@ -141,6 +141,17 @@ reserve-only m (OneBit q o b) sp i k c =
         or : T (bit (getD (mapOf q m) i 0) k) ⊎ ((i ≡ o) × (k ≡ b)) → T (bit (getD (mapOf sp m) i 0) k) ⊎ T (within (OneBit q o b) sp i k)
         or (inl x) = inl (subst (λ (z : Space). T (bit (getD (mapOf z m) i 0) k)) e x)
         or (inr x) = inr (bit-in q sp o b i k s (x .0) (x .1))
+
+-- A byte that is clear afterwards was clear before: what is taken stays taken.
+pub reserve-clear : (m : Maps) (r : Room) (sp : Space) (i : ℕ) → getD (mapOf sp (reserve r m)) i 0 ≡ 0 → getD (mapOf sp m) i 0 ≡ 0
+unfolding reserve
+reserve-clear m Nowhere sp i = λ h. h
+reserve-clear m (Bytes q o n) sp i =
+    map-cases (λ x. getD x i 0 ≡ 0 → getD (mapOf sp m) i 0 ≡ 0) q sp (fill o n (mapOf q m)) m
+    (λ _ e h. subst (λ (z : Space). getD (mapOf z m) i 0 ≡ 0) e (fill-clear o n (mapOf q m) i h)) (λ h. h)
+reserve-clear m (OneBit q o b) sp i =
+    map-cases (λ x. getD x i 0 ≡ 0 → getD (mapOf sp m) i 0 ≡ 0) q sp (setBit o b (mapOf q m)) m
+    (λ _ e h. subst (λ (z : Space). getD (mapOf z m) i 0 ≡ 0) e (setBit-clear o b (mapOf q m) i h)) (λ h. h)
 
 -- Maps stay as long as they were.
 pub reserve-length : (m : Maps) (r : Room) (sp : Space) → length (mapOf sp (reserve r m)) ≡ length (mapOf sp m)

@@ -7,7 +7,8 @@ use Rattle.storages.specs.declared.Space.{Space}
 use Rattle.storages.specs.declared.Space.the-variants.{App, Work}
 use Rattle.storages.specs.declared.Room.{Room}
 use Rattle.storages.specs.declared.Room.the-variants.{Nowhere, Bytes, OneBit}
-use Rattle.maps.specs.Maps.{clearBytes, clearBit, fill, setBit}
+use Rattle.places.specs.declared.memory.Floor.{Floor}
+use Rattle.maps.specs.Maps.{TakenBelow, clearBytes, clearBit, fill, setBit}
 
 pub record Maps : Type 0 where
   pub app : List ℕ
@@ -35,3 +36,7 @@ unfoldable pub reserve : Room → Maps → Maps
 reserve Nowhere m = m
 reserve (Bytes sp o n) m = putMap sp (fill o n (mapOf sp m)) m
 reserve (OneBit sp o k) m = putMap sp (setBit o k (mapOf sp m)) m
+
+-- No byte below the floor is clear, in either map.
+abbrev pub Solid : Floor → List ℕ → List ℕ → Type 0
+Solid f app wrk = TakenBelow app (f .app) × TakenBelow wrk (f .work)

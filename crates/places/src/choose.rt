@@ -6,10 +6,11 @@ ghost use lib.ListN.{length};
 ghost use Rattle.fields.specs.Pick.{_and_, _or_};
 ghost use Rattle.storages.specs.Storage.{aCarry, carryFlag, allows, alone};
 ghost use Rattle.storages.specs.Room.{room};
-ghost use Rattle.maps.specs.Maps.{FoundIn, BitIn};
-ghost use Rattle.places.specs.Memory.{clearRoom};
+ghost use Rattle.maps.specs.Maps.{TakenBelow, FoundIn, BitIn};
+ghost use Rattle.places.specs.Memory.{clearRoom, Solid};
 ghost use Rattle.places.specs.Legal.{Small, FixedSmall};
 ghost use Rattle.places.specs.Place.{Given, fitted, nameBit, nameBytes, workBit, appBit, chooseBit, workBytes, appBytes, chooseBytes, chooseFree, chooseFixed, choose};
+use crate::memory::Floor;
 use crate::memory::is_clear;
 use maps::Found;
 use maps::FoundBit;
@@ -152,23 +153,23 @@ pub fn choose_bit(s: Storage, app: &[u8], work: &[u8], lo: usize, hi: usize) -> 
     work_bit(s, work)
 }
 
-// Bytes after application RAM: Flash, then the work map.
-fn work_bytes(s: Storage, work: &[u8]) -> Chosen
-    requires { ⌜ length (now work) ≤ 512 ⌝ }
+// Bytes after application RAM: Flash, then the work map, whose bytes below `low` are taken.
+fn work_bytes(s: Storage, work: &[u8], low: usize) -> Chosen
+    requires { ⌜ (length (now work) ≤ 512) × TakenBelow (now work) low ⌝ }
     ensures { λ r. ⌜ r ≡ workBytes s (now (work .entry)) ⌝ }
 {
     if allows_region(s, 7) {
         return Chosen::Spot(Placement::Flash);
     }
     if allows_work(s) {
-        return name_bytes(s, first_clear(work, s.len as usize));
+        return name_bytes(s, first_clear(work, low, s.len as usize));
     }
     Chosen::Refused(Refusal::NoPlace(s.id as usize))
 }
 
 // The window that was found in application RAM; without one a direct storage is refused, and others try on.
-fn app_bytes(s: Storage, found: Found, work: &[u8]) -> Chosen
-    requires { ⌜ FoundIn 256 found × (length (now work) ≤ 512) ⌝ }
+fn app_bytes(s: Storage, found: Found, work: &[u8], low: usize) -> Chosen
+    requires { ⌜ FoundIn 256 found × (length (now work) ≤ 512) × TakenBelow (now work) low ⌝ }
     ensures { λ r. ⌜ r ≡ appBytes s found (now (work .entry)) ⌝ }
 {
     match found {
@@ -180,20 +181,21 @@ fn app_bytes(s: Storage, found: Found, work: &[u8]) -> Chosen
             if s.direct {
                 return Chosen::Refused(Refusal::ApplicationFull(s.len as usize));
             }
-            work_bytes(s, work)
+            work_bytes(s, work, low)
         }
     }
 }
 
 // Bytes: the first clear window of application RAM, where that is allowed.
-pub fn choose_bytes(s: Storage, app: &[u8], work: &[u8]) -> Chosen
-    requires { ⌜ (length (now app) ≤ 256) × (length (now work) ≤ 512) ⌝ }
+pub fn choose_bytes(s: Storage, app: &[u8], work: &[u8], floor: Floor) -> Chosen
+    requires { ⌜ (length (now app) ≤ 256) × (length (now work) ≤ 512) × Solid floor (now app) (now work) ⌝ }
     ensures { λ r. ⌜ r ≡ chooseBytes s (record { app = now (app .entry); wrk = now (work .entry) }) ⌝ }
 {
     if allows_region(s, 2) {
-        return app_bytes(s, first_clear(app, s.len as usize), work);
+        let found = first_clear(app, floor.app, s.len as usize);
+        return app_bytes(s, found, work, floor.work);
     }
-    work_bytes(s, work)
+    work_bytes(s, work, floor.work)
 }
 
 // Is the storage a Carry that may sit in the carry flag?
@@ -207,8 +209,15 @@ fn sits_in_flag(s: Storage) -> bool
 }
 
 // A storage that is not fixed.
-pub fn choose_free(s: Storage, app: &[u8], work: &[u8], lo: usize, hi: usize) -> Chosen
-    requires { ⌜ (hi ≤ length (now app)) × (length (now app) ≤ 256) × (length (now work) ≤ 512) ⌝ }
+pub fn choose_free(
+    s: Storage,
+    app: &[u8],
+    work: &[u8],
+    floor: Floor,
+    lo: usize,
+    hi: usize,
+) -> Chosen
+    requires { ⌜ (hi ≤ length (now app)) × (length (now app) ≤ 256) × (length (now work) ≤ 512) × Solid floor (now app) (now work) ⌝ }
     ensures { λ r. ⌜ ((g : Given) → g .lo ≡ lo → g .hi ≡ hi → r ≡ chooseFree g s (record { app = now (app .entry); wrk = now (work .entry) })) ⌝ }
 {
     if sits_in_flag(s) {
@@ -217,7 +226,7 @@ pub fn choose_free(s: Storage, app: &[u8], work: &[u8], lo: usize, hi: usize) ->
     if takes_bit(s.kind) {
         return choose_bit(s, app, work, lo, hi);
     }
-    choose_bytes(s, app, work)
+    choose_bytes(s, app, work, floor)
 }
 
 // May the fixed place be taken: is its room clear, and large enough?
@@ -246,13 +255,13 @@ pub fn choose_fixed(s: Storage, p: Placement, app: &[u8], work: &[u8]) -> Chosen
 }
 
 // A place of its own for a storage.
-pub fn choose(s: Storage, app: &[u8], work: &[u8], lo: usize, hi: usize) -> Chosen
-    requires { ⌜ (hi ≤ length (now app)) × (length (now app) ≤ 256) × (length (now work) ≤ 512) × FixedSmall (s .len) (s .fixed) ⌝ }
+pub fn choose(s: Storage, app: &[u8], work: &[u8], floor: Floor, lo: usize, hi: usize) -> Chosen
+    requires { ⌜ (hi ≤ length (now app)) × (length (now app) ≤ 256) × (length (now work) ≤ 512) × FixedSmall (s .len) (s .fixed) × Solid floor (now app) (now work) ⌝ }
     ensures { λ r. ⌜ ((g : Given) → g .lo ≡ lo → g .hi ≡ hi → r ≡ choose g s (record { app = now (app .entry); wrk = now (work .entry) })) ⌝ }
 {
     let fixed = s.fixed;
     match fixed {
-        Fixed::Free => choose_free(s, app, work, lo, hi),
+        Fixed::Free => choose_free(s, app, work, floor, lo, hi),
         Fixed::At(p) => choose_fixed(s, p, app, work),
     }
 }

@@ -1,5 +1,5 @@
 -- What a loop over the storages needs of one turn. Placing the rest comes to what placing all comes to, since a step hands its state on; and a step adds one
--- placed storage and at most one slot, and keeps the maps' lengths.
+-- placed storage and at most one slot, keeps the maps' lengths, and clears no byte.
 use mathlib.Core.Path.{_≡_, refl, sym, ap, _∙_}
 use mathlib.Core.Bool.{Bool, true, false}
 use mathlib.Core.List.{List, [], _∷_, _++_, append-nil, append-assoc}
@@ -17,9 +17,11 @@ use Rattle.maps.specs.declared.Found.the-variants.{Nothing, At}
 use Rattle.slots.specs.Slots.{opened}
 use Rattle.places.specs.declared.choose.Chosen.{Chosen}
 use Rattle.places.specs.declared.choose.Chosen.the-variants.{Spot, Refused}
+use Rattle.places.specs.declared.memory.Floor.{Floor}
+use Rattle.places.specs.Memory.{Solid}
 use Rattle.places.specs.Place.{Given, Opened, joined, slotFor, choose, Placed, State, Outcome, done, refused, placedAt, takeRoom, joinSlot, stepBy, step, andThen, placeFrom, recordOf, recordsOf}
 use Rattle.turns.proofs.Joining.{slotAt}
-use Rattle.places.proofs.Rooms.{reserve-length}
+use Rattle.places.proofs.Rooms.{reserve-clear, reserve-length}
 
 -- What holds of the state that comes out; a refusal promises nothing.
 abbrev pub After : (State → Type 0) → Outcome → Type 0
@@ -93,6 +95,18 @@ step-sizes g a w s x h = step-cases (Sizes a w) g s x taken (λ k. h)
     taken : (c : Chosen) → After (Sizes a w) (takeRoom s x c)
     taken (Refused r) = tt
     taken (Spot p) = (reserve-length (x .maps) (room (s .len) p) App ∙ h .0, reserve-length (x .maps) (room (s .len) p) Work ∙ h .1)
+
+-- What is taken stays taken, so that a floor stays one.
+abbrev pub Over : Floor → State → Type 0
+Over f x = Solid f (x .maps .app) (x .maps .wrk)
+
+pub step-over : (g : Given) (f : Floor) (s : Storage) (x : State) → Over f x → After (Over f) (step g s x)
+step-over g f s x h = step-cases (Over f) g s x taken (λ k. h)
+  where
+    taken : (c : Chosen) → After (Over f) (takeRoom s x c)
+    taken (Refused r) = tt
+    taken (Spot p) =
+        (λ j l e. h .0 j l (reserve-clear (x .maps) (room (s .len) p) App j e), λ j l e. h .1 j l (reserve-clear (x .maps) (room (s .len) p) Work j e))
 
 -- ---- Results
 

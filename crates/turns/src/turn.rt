@@ -7,12 +7,14 @@ ghost use Rattle.rows.specs.Row as W;
 ghost use Rattle.fields.specs.Pick.{pick};
 ghost use Rattle.storages.specs.Storage.{tries};
 ghost use Rattle.slots.specs.Slots.{slotsIn};
+ghost use Rattle.places.specs.Memory.{Solid};
 ghost use Rattle.places.specs.Legal.{FixedSmall};
 ghost use Rattle.places.specs.Place.{Given, State, recordAt, choose, takeRoom, step};
 ghost use Rattle.turns.specs.Held.{Tells, linkedAt, Held, listAfter, countAfter, TurnedBy};
 use crate::marks::slot_for;
 use places::choose::Chosen;
 use places::choose::choose;
+use places::memory::Floor;
 use places::memory::take_room;
 use records::Refusal;
 use slots::Page;
@@ -108,6 +110,7 @@ fn take_own(
     s: Storage,
     app: &mut [u8],
     work: &mut [u8],
+    floor: Floor,
     ids: &mut [u16],
     kin: &mut [u16],
     numbers: &mut [u16],
@@ -115,12 +118,12 @@ fn take_own(
     i: usize,
 ) -> Verdict
     requires { ⌜ (length (now ids) ≡ 256) × (length (now kin) ≡ 512) × (length (now numbers) ≡ 256) × (length (now out) ≡ 2048) × (length (now app) ≤ 256) × (length (now work) ≤ 512) × (i < 256) × (s .id < 256)
-        × FixedSmall (s .len) (s .fixed) × (n ≤ 256) ⌝ }
+        × FixedSmall (s .len) (s .fixed) × (n ≤ 256) × Solid floor (now app) (now work) ⌝ }
     ensures { λ r. ⌜ ((g : Given) (x : State) (list : List Slot) → length list ≡ 256 → g .lo ≡ 0 → g .hi ≡ length (now (app .entry))
         → Held x (now (app .entry)) (now (work .entry)) list n (now (ids .entry)) (now (kin .entry)) (now (numbers .entry)) (now (out .entry)) i
         → TurnedBy (takeRoom s x (choose g s (x .maps))) r (now (app .exit)) (now (work .exit)) (listAfter list n s r) (countAfter n r) (now (ids .exit)) (now (kin .exit)) (now (numbers .exit)) (now (out .exit)) (i + 1)) ⌝ }
 {
-    match choose(s, app, work, 0, app.len()) {
+    match choose(s, app, work, floor, 0, app.len()) {
         Chosen::Refused(r) => Verdict::Refused(r),
         Chosen::Spot(p) => {
             take_room(app, work, room_of(s.len, p));
@@ -139,6 +142,7 @@ pub fn place_one(
     copies: &[u64],
     app: &mut [u8],
     work: &mut [u8],
+    floor: Floor,
     ids: &mut [u16],
     kin: &mut [u16],
     numbers: &mut [u16],
@@ -146,7 +150,7 @@ pub fn place_one(
     i: usize,
 ) -> Verdict
     requires { ⌜ (length (now graph) ≡ 1024) × (length (now copies) ≡ 1024) × (length (now ids) ≡ 256) × (length (now kin) ≡ 512) × (length (now numbers) ≡ 256) × (length (now out) ≡ 2048) × (length (now app) ≤ 256) × (length (now work) ≤ 512) × (i < 256) × (s .id < 256)
-        × FixedSmall (s .len) (s .fixed) × ((x : State) × Held x (now app) (now work) (slotsIn list) n (now ids) (now kin) (now numbers) (now out) i) ⌝ }
+        × FixedSmall (s .len) (s .fixed) × ((x : State) × Held x (now app) (now work) (slotsIn list) n (now ids) (now kin) (now numbers) (now out) i) × Solid floor (now app) (now work) ⌝ }
     ensures { λ r. ⌜ ((g : Given) (x : State) → Tells g (now (graph .entry)) (now (copies .entry)) → g .lo ≡ 0 → g .hi ≡ length (now (app .entry))
         → Held x (now (app .entry)) (now (work .entry)) (slotsIn list) n (now (ids .entry)) (now (kin .entry)) (now (numbers .entry)) (now (out .entry)) i
         → TurnedBy (step g s x) r (now (app .exit)) (now (work .exit)) (listAfter (slotsIn list) n s r) (countAfter n r) (now (ids .exit)) (now (kin .exit)) (now (numbers .exit)) (now (out .exit)) (i + 1)) ⌝ }
@@ -156,5 +160,5 @@ pub fn place_one(
         note(ids, kin, numbers, out, i, s, k, placement_at(list, k));
         return Verdict::Placed;
     }
-    take_own(n, s, app, work, ids, kin, numbers, out, i)
+    take_own(n, s, app, work, floor, ids, kin, numbers, out, i)
 }

@@ -12,11 +12,11 @@ use Rattle.allocator.proofs.all.place_all.Statement.{statement}
 use Rattle.allocator.proofs.all.place_all.Tie as tie
 
 abbrev Inv-loop : tie.InvT-loop
-Inv-loop file graph copies app₀ work₀ ids₀ kin₀ numbers₀ out₀ list₀ n₀ at₀ i₀ app work ids kin numbers out list n at i =
-    Going file graph copies app₀ work₀ app work list n ids kin numbers out at i
+Inv-loop file graph copies app₀ work₀ ids₀ kin₀ numbers₀ out₀ list₀ n₀ at₀ i₀ floor₀ app work ids kin numbers out list n at i floor =
+    Going file graph copies app₀ work₀ app work list n ids kin numbers out at i floor
 
 abbrev μ-loop : tie.MeasureT-loop
-μ-loop file graph copies app₀ work₀ ids₀ kin₀ numbers₀ out₀ list₀ n₀ at₀ i₀ app work ids kin numbers out list n at i =
+μ-loop file graph copies app₀ work₀ ids₀ kin₀ numbers₀ out₀ list₀ n₀ at₀ i₀ floor₀ app work ids kin numbers out list n at i floor =
     length file - at
 
 no-slots-requires : tie.Need-no-slots-requires Inv-loop μ-loop
@@ -46,9 +46,12 @@ storage-at-requires c κs =
     let g = opens-inside f (l .loop .at) (l .loop .inv .inside) q in
     omega (arith, c .tail-of2 .ensures .1)
 
+raise-requires : tie.Need-raise-requires Inv-loop μ-loop
+raise-requires c κs = c .before .before .before .before .before .before .before .loop .inv .solid
+
 place-one-requires : tie.Need-place-one-requires Inv-loop μ-loop
 place-one-requires c κs =
-    let z = c .before .before .before .before .before .before in
+    let z = c .before .before .before .before .before .before .before .before .before in
     let o = z .before .before in
     let t = o .before in
     let l = t .before .before in
@@ -69,6 +72,7 @@ place-one-requires c κs =
       w .1,
       w .2,
       going-held v,
+      c .before .before .before .before .before .before .raise .ensures,
     )
 
 enum-told : tie.Need-enum-told Inv-loop μ-loop
@@ -78,9 +82,9 @@ enum-known-p : tie.Need-enum-known-p Inv-loop μ-loop
 enum-known-p c = search needs
 
 -- Where a storage opens a slot there is room for one more.
-slots-few : (c : tie.After-known-told Inv-loop μ-loop) → c .before .before .before .before .before .before .before .before .before .before .before .before .before .before .before .before .before .before .before .before .before .before .before .before .before .before .before .loop .n < 256
+slots-few : (c : tie.After-known-told Inv-loop μ-loop) → c .before .before .before .before .before .before .before .before .before .before .before .before .before .before .before .before .before .before .before .before .before .before .before .before .before .before .before .before .before .before .loop .n < 256
 slots-few c =
-    let z = c .before .before .before .before .before .before .before .before .before .before .before .before .before .before .before .before .before .before .before .before .before .before in
+    let z = c .before .before .before .before .before .before .before .before .before .before .before .before .before .before .before .before .before .before .before .before .before .before .before .before .before in
     let o = z .before .before in
     let t = o .before in
     let l = t .before .before in
@@ -115,43 +119,43 @@ enum-known-r c = search needs
 same-length : tie.Need-same-length Inv-loop μ-loop
 same-length c =
     let d = c .before .before .before .before .before .before .before .before .before .before .before .before .before .before in
-    let l = d .before .before .before .before .before .before .before .before .before .before .before .before .before in
+    let l = d .before .before .before .before .before .before .before .before .before .before .before .before .before .before .before .before in
     d .app .given ∙ l .loop .inv .app-long
 
 same-length-2 : tie.Need-same-length-2 Inv-loop μ-loop
 same-length-2 c =
     let d = c .before .before .before .before .before .before .before .before .before .before .before .before in
-    let l = d .before .before .before .before .before .before .before .before .before .before .before .before .before .before .before in
+    let l = d .before .before .before .before .before .before .before .before .before .before .before .before .before .before .before .before .before .before in
     d .work .given ∙ l .loop .inv .wrk-long
 
 same-length-3 : tie.Need-same-length-3 Inv-loop μ-loop
 same-length-3 c =
     let d = c .before .before .before .before .before .before .before .before .before .before in
-    let l = d .before .before .before .before .before .before .before .before .before .before .before .before .before .before .before .before .before in
+    let l = d .before .before .before .before .before .before .before .before .before .before .before .before .before .before .before .before .before .before .before .before in
     d .ids .given ∙ l .loop .inv .ids-long ∙ sym (l .before .before .before .before .before .before .before .before .before .before .before .pre .6)
 
 same-length-4 : tie.Need-same-length-4 Inv-loop μ-loop
 same-length-4 c =
     let d = c .before .before .before .before .before .before .before .before in
-    let l = d .before .before .before .before .before .before .before .before .before .before .before .before .before .before .before .before .before .before .before in
+    let l = d .before .before .before .before .before .before .before .before .before .before .before .before .before .before .before .before .before .before .before .before .before .before in
     d .kin .given ∙ l .loop .inv .kin-long ∙ sym (ap length (l .before .before .before .before .before .before .before .before .before .before .before .pre .7))
 
 same-length-5 : tie.Need-same-length-5 Inv-loop μ-loop
 same-length-5 c =
     let d = c .before .before .before .before .before .before in
-    let l = d .before .before .before .before .before .before .before .before .before .before .before .before .before .before .before .before .before .before .before .before .before in
+    let l = d .before .before .before .before .before .before .before .before .before .before .before .before .before .before .before .before .before .before .before .before .before .before .before .before in
     d .numbers .given ∙ l .loop .inv .numbers-long ∙ sym (l .before .before .before .before .before .before .before .before .before .before .before .pre .8)
 
 same-length-6 : tie.Need-same-length-6 Inv-loop μ-loop
 same-length-6 c =
     let d = c .before .before .before .before in
-    let l = d .before .before .before .before .before .before .before .before .before .before .before .before .before .before .before .before .before .before .before .before .before .before .before in
+    let l = d .before .before .before .before .before .before .before .before .before .before .before .before .before .before .before .before .before .before .before .before .before .before .before .before .before .before in
     d .out .given ∙ l .loop .inv .out-long ∙ sym (clear-long _ (l .before .before .before .before .before .before .before .before .before .before .before .pre .9))
 
 returns : tie.Need-returns Inv-loop μ-loop
 returns c =
     let n = c .before .before .before .before .before .before .before .before .before .before .before .before .before .before .before in
-    let z = n .before .before .before .before .before .before .before in
+    let z = n .before .before .before .before .before .before .before .before .before .before in
     let o = z .before .before in
     let t = o .before in
     let l = t .before .before in
@@ -161,7 +165,7 @@ returns c =
 
 add-at : tie.Need-add-at Inv-loop μ-loop
 add-at c =
-    let o = c .before .before .before .before .before .before .before .before .before .before .before .before .before .before .before .before .before .before .before .before .before .before in
+    let o = c .before .before .before .before .before .before .before .before .before .before .before .before .before .before .before .before .before .before .before .before .before .before .before .before .before in
     let t = o .before in
     let l = t .before .before in
     let a = l .before .before .before .before .before .before .before .before .before .before .before in
@@ -171,11 +175,11 @@ add-at c =
     omega (arith, a .good .0)
 
 add-i : tie.Need-add-i Inv-loop μ-loop
-add-i c = let l = c .before .before .before .before .before .before .before .before .before .before .before .before .before .before .before .before .before .before .before .before .before .before .before .before .before in omega (arith, l .loop .inv .few)
+add-i c = let l = c .before .before .before .before .before .before .before .before .before .before .before .before .before .before .before .before .before .before .before .before .before .before .before .before .before .before .before .before in omega (arith, l .loop .inv .few)
 
 loop-less : tie.Need-loop-less Inv-loop μ-loop
 loop-less c =
-    let o = c .before .before .before .before .before .before .before .before .before .before .before .before .before .before .before .before .before .before .before .before .before .before in
+    let o = c .before .before .before .before .before .before .before .before .before .before .before .before .before .before .before .before .before .before .before .before .before .before .before .before .before in
     let t = o .before in
     let l = t .before .before in
     let f = l .before .before .before .before .before .before .before .before .before .before .before .args .file .now in
@@ -187,7 +191,7 @@ loop-again : tie.Need-loop-again Inv-loop μ-loop
 loop-again c =
     let d = c .before .before in
     let n = c .before .before .before .before .before .before .before .before .before .before .before .before .before in
-    let z = n .before .before .before .before .before .before .before in
+    let z = n .before .before .before .before .before .before .before .before .before .before in
     let o = z .before .before in
     let t = o .before in
     let l = t .before .before in
@@ -199,7 +203,7 @@ loop-again c =
     let follows : Follows (l .loop .list) (l .loop .n) s v (c .match .list) (c .match .n) =
     ⊎-elim (λ w. placed-follows (l .loop .list) (l .loop .n) s v (c .match .list) (c .match .n) (l .loop .inv .pages) (l .loop .inv .full) (w .1 .given .1) (w .2) (w .3))
     (λ w. opened-follows (l .loop .list) (l .loop .n) s v (c .match .list) (c .match .n) (l .loop .inv .pages) (l .loop .inv .full) few _ _ _ _ (w .1 .given .1) (w .4 .ensures) (w .5 .ensures) (w .6) (w .7)) (c .match .came) in
-    going-on (l .loop .inv) _ _ (z .before .tail-of2 .ensures .0) (z .storage-at .ensures) q v _ _ _ _ _ _ (n .place-one .ensures) (c .match .list) (c .match .n) follows
+    going-on (l .loop .inv) _ _ (z .before .tail-of2 .ensures .0) (z .storage-at .ensures) q v _ _ _ _ _ _ (n .place-one .ensures) (c .match .list) (c .match .n) follows _ (n .before .before .before .before .before .before .before .raise .ensures)
     (d .before .before .before .before .before .before .before .before .before .before .app .given) (d .before .before .before .before .before .before .before .before .work .given) (d .before .before .before .before .before .before .ids .given) (d .before .before .before .before .kin .given) (d .before .before .numbers .given) (d .out .given)
 
 same-length-7 : tie.Need-same-length-7 Inv-loop μ-loop
@@ -239,6 +243,7 @@ place-all-spec =
     opens-storage-requires
     tail-of-requires-2
     storage-at-requires
+    raise-requires
     place-one-requires
     enum-told
     enum-known-p

@@ -22,8 +22,8 @@ narrow-requires c κs = let h = subst (FoundIn 256) (c .before .found .given .1)
 enum-told : tie.Need-enum-told
 enum-told c = search needs
 
-cast-t9 : tie.Need-cast-t9
-cast-t9 c = search needs
+cast-t10 : tie.Need-cast-t10
+cast-t10 c = search needs
 
 returns : tie.Need-returns
 returns c =
@@ -52,7 +52,7 @@ app-bytes-spec =
     enum-known-found
     narrow-requires
     enum-told
-    cast-t9
+    cast-t10
     returns
     work-bytes-requires
     returns-2

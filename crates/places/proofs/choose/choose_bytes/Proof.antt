@@ -20,7 +20,7 @@ first-clear-requires : tie.Need-first-clear-requires
 first-clear-requires c κs = search needs
 
 app-bytes-requires : tie.Need-app-bytes-requires
-app-bytes-requires c κs = (found-below _ 256 (c .first-clear .result) (omega arith) (c .first-clear .ensures .1), search needs)
+app-bytes-requires c κs = (found-below _ 256 (c .first-clear .result) (omega arith) (c .first-clear .ensures .1), search needs, search needs)
 
 returns : tie.Need-returns
 unfolding chooseBytes

@@ -36,8 +36,8 @@ returns-2 c =
     let on = sym (c .before .before .before .before .allows-work .ensures) ∙ c .before .before .before .if2 .taken in
     c .name-bytes .ensures ∙ ap (nameBytes (a .s)) (c .before .first-clear .ensures .0) ∙ sym (pick-no _ _ _ off ∙ pick-yes _ _ _ on)
 
-cast-t8 : tie.Need-cast-t8
-cast-t8 c = search needs
+cast-t9 : tie.Need-cast-t9
+cast-t9 c = search needs
 
 returns-3 : tie.Need-returns-3
 unfolding workBytes
@@ -57,5 +57,5 @@ work-bytes-spec =
     first-clear-requires
     name-bytes-requires
     returns-2
-    cast-t8
+    cast-t9
     returns-3)

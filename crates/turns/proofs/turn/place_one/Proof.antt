@@ -56,7 +56,7 @@ returns c =
 take-own-requires : tie.Need-take-own-requires
 take-own-requires c κs =
     let p = c .before .before .before .before .before .before .before .before .before .before .before .before .before .before .before .before .before .before .before .pre in
-    (p .2, p .3, p .4, p .5, p .6, p .7, p .8, p .9, p .10, omega (arith, p .11 .1 .kept .few))
+    (p .2, p .3, p .4, p .5, p .6, p .7, p .8, p .9, p .10, omega (arith, p .11 .1 .kept .few), p .12)
 
 same-length-5 : tie.Need-same-length-5
 same-length-5 c = search needs
