@@ -1,8 +1,7 @@
 -- Document 01, "Placement": slots. A slot has an owner, a kind and a length, and the placement that its members share.
-use mathlib.Core.Path.{_≡_}
-use mathlib.Core.Bool.{Bool, false, not}
+use mathlib.Core.Bool.{Bool, not}
 use mathlib.Core.List.{List, [], _∷_, _++_}
-use Prim.Native.Nat.{ℕ, zero, suc, _+_, _*_, _<_}
+use Prim.Native.Nat.{ℕ, zero, suc, _*_, _/_, _%_, _^_}
 use lib.Dec.{eqb}
 use lib.ListN.{getD, replicate}
 use Rattle.rows.specs.Row.{memberAt}
@@ -40,9 +39,9 @@ suits s t =
 unfoldable pub passes : Storage → List ℕ → List ℕ → ℕ → Slot → Bool
 passes s free chosen i t = suits s t and (memberAt free 0 i and memberAt chosen 0 i)
 
--- A row marks no slot of page k.
-abbrev pub Unmarked : List ℕ → ℕ → Type 0
-Unmarked row k = (i : ℕ) → i < 16 → memberAt row 0 (k * 16 + i) ≡ false
+-- The marks of page k in a row of slot numbers: the quarter of a word that has a bit for each of the page's 16 slots.
+unfoldable pub marksOf : List ℕ → ℕ → ℕ
+marksOf row k = getD row (k / 4) 0 / 2 ^ (k % 4 * 16) % 65536
 
 -- Of n slots the number of the first that passes a test of its number and itself, or `found` where none does: the walk goes down, and the last word stands.
 unfoldable pub firstOf : (ℕ → Slot → Bool) → List Slot → ℕ → ℕ → ℕ

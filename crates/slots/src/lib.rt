@@ -1,11 +1,12 @@
 // Slots: places that storages of one owner, kind and length share.
 // Knows storages; gives the slot as a struct with its placement as a choice inside it, and a list of slots, in pages, to search and to put into.
 ghost use mathlib.Core.Path.{_≡_};
-ghost use mathlib.Core.Bool.{false};
+ghost use mathlib.Core.Bool.{not};
 ghost use Prim.Native.Nat.{_+_, _≤_, _<_};
+ghost use lib.Dec.{eqb};
 ghost use lib.ListN.{length, getD, set, replicate};
 ghost use Rattle.fields.specs.Pick.{pick};
-ghost use Rattle.slots.specs.Slots.{noSlot, noPage, slotsIn, suits, passes, Unmarked, firstOf, opened};
+ghost use Rattle.slots.specs.Slots.{noSlot, noPage, slotsIn, suits, passes, marksOf, firstOf, opened};
 use storages::Placement;
 use storages::Storage;
 use storages::allows_region;
@@ -158,7 +159,7 @@ fn count_in(n: usize, base: usize) -> usize
 // Is a slot of page k marked in a row?
 fn page_marked(row: &[u64], k: usize) -> bool
     requires { ⌜ (length (now row) ≡ 4) × (k < 16) ⌝ }
-    ensures { λ r. ⌜ (r ≡ false → Unmarked (now (row .entry)) k) ⌝ }
+    ensures { λ r. ⌜ r ≡ not (eqb (marksOf (now (row .entry)) k) 0) ⌝ }
 {
     (row[k / 4] >> (k % 4 * 16)) % 65536 != 0
 }

@@ -1,8 +1,7 @@
--- `slots::page_marked` meets its contract. The code looks at the quarter of a word that is page k's: where it is 0, no number of the page is
--- in the row. Assumes nothing.
+-- `slots::page_marked` meets its contract. The code looks at the quarter of a word that has page k's marks. Assumes nothing.
 use borrow.Author.Needs.{needs}
-use borrow.Author.Tests.{not-false, eqb-true}
-use Rattle.slots.proofs.Marks.{quarter-none}
+use mathlib.Core.Path.{refl}
+use Rattle.slots.specs.Slots.{marksOf}
 use Rattle.slots.proofs.page_marked.Statement.{statement}
 use Rattle.slots.proofs.page_marked.Tie as tie
 
@@ -19,7 +18,8 @@ shr-result : tie.Need-shr-result
 shr-result c = search needs
 
 returns : tie.Need-returns
-returns c = λ e. quarter-none _ _ (eqb-true _ _ (not-false _ e))
+unfolding marksOf
+returns c = refl
 
 pub page-marked-spec : {M : Type 1} → statement M
 page-marked-spec = tie.close (tie.spec mul-result shared-slice-read-result mul-result-2 shr-result returns)

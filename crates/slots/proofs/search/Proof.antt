@@ -1,11 +1,12 @@
 -- `slots::search` meets its contract. Before each page no slot passes of those gone through, so the page's first that passes is the list's;
 -- in a page without a chosen slot none passes, and behind the last page none has passed. Assumes nothing.
 use Prim.Native.Nat.{_*_, _-_, _≤_}
-use mathlib.Core.Path.{_≡_}
+use mathlib.Core.Path.{_≡_, sym, _∙_}
 use mathlib.Core.Logic.{⊎-elim}
 use native.Mathlib.Omega.{arith}
 use lib.ListN.{length}
 use borrow.Author.Needs.{needs}
+use borrow.Author.Tests.{not-false, eqb-true}
 use Rattle.slots.specs.Slots.{passes}
 use Rattle.slots.proofs.Pages.{full-array, Missed, page-hit, page-missed, pages-missed}
 use Rattle.slots.proofs.Marks.{page-unmarked}
@@ -77,7 +78,7 @@ loop-again c =
       ⊎-elim
           (λ w. page-missed (passes (a .args .s) _ _) (a .args .t1) (a .args .n) (l .loop .k) _ _ (full-array 16 (a .args .t1) _ (a .good .0)) (omega arith) (w .3 .ensures .0)
           (w .3 .ensures .1) _ (w .4 .ensures) (l .loop .inv .1) (w .5 .left) (w .3 .ensures .2))
-          (λ w. page-unmarked (a .args .s) _ _ (a .args .t1) (a .args .n) (l .loop .k) (c .before .page-marked .ensures (w .left)) (l .loop .inv .1))
+          (λ w. page-unmarked (a .args .s) _ _ (a .args .t1) (a .args .n) (l .loop .k) (eqb-true _ _ (not-false _ (sym (c .before .page-marked .ensures) ∙ w .left))) (l .loop .inv .1))
           (c .if1 .came),
     )
 
