@@ -12,7 +12,7 @@ use lib.Seq.{drop-drop}
 use borrow.Author.Tests.{eqb-true, eqb-false, eq-eqb, lt-ltb, ltb-true}
 use Rattle.rows.specs.Row.{Words, memberAt, row, pack}
 use Rattle.rows.proofs.Tests.{either, same-test}
-use Rattle.rows.proofs.Rows.{length-row}
+use Rattle.rows.proofs.Rows.{lt-or-ge, length-row}
 use Rattle.rows.proofs.Members.{member-row, words-row, words-none}
 use Rattle.rows.proofs.Pack.{pack-unique}
 use Rattle.fields.specs.Pick.{pick, _and_, has}
@@ -27,12 +27,12 @@ use Rattle.graph.specs.Graphs.{relationRows}
 use Rattle.meetings.specs.Members.{members}
 use Rattle.meetings.specs.Meeting.{storagesAt}
 use Rattle.storages.specs.File.{declared}
-use Rattle.meetings.specs.Closing.{linked, apart, apartAll, meetPairs, closed, ownPair, ownPairs, holdPairs, heldBy}
+use Rattle.meetings.specs.Closing.{linked, apart, apartAll, meetPairs, closed, Above, ownPair, ownPairs, holdPairs, heldBy}
 use Rattle.graph.specs.Gathered.{stops, Numbered, Gathered, Paired, Addressed}
 use Rattle.graph.proofs.PairLaws.{pair-each, pair-append}
 use Rattle.graph.proofs.Anys.{or-left, or-right, and-in, not-eqb, not-eqb-out, any-out, any-in, has-mem, mem-has, pair-nil, pair-cons, pair-pick}
 use Rattle.graph.proofs.Buffers.{Low, Fit, fit-append, fit-each, storages-low, length-linked, words-linked, member-linked}
-use Rattle.graph.proofs.Meeting.{at-none, gathered-clashes, stops-clashes}
+use Rattle.graph.proofs.Meeting.{at-none, none-above, gathered-clashes, stops-clashes}
 
 -- ---- a buffer with the bits of a relation is its rows
 
@@ -140,8 +140,13 @@ module _ (meets words : List ℕ) where
           let d : ¬ (k ≡ i) = eqb-false k i q in
           or-right (hasPair (apartAll k (storagesAt words (members (row meets (k * 8) 8)))) i j) (hasPair (meetPairs meets words (suc k) n) i j) (ih (omega arith))
 
-  pub pair-meet : (i j : ℕ) → i < 256 → hasPair (meetPairs meets words 0 256) i j ≡ near i j
-  pair-meet i j h = same-test (hasPair (meetPairs meets words 0 256) i j) (near i j) (meet-out i j 0 256) (meet-in i j 0 256 (omega arith) (omega arith))
+  -- The first n storages are enough where no other is near any.
+  pub pair-meet : (n i j : ℕ) → (n ≤ i → near i j ≡ true → ⊥) → hasPair (meetPairs meets words 0 n) i j ≡ near i j
+  pair-meet n i j none = same-test (hasPair (meetPairs meets words 0 n) i j) (near i j) (meet-out i j 0 n) (λ e. go e (lt-or-ge i n))
+    where
+      go : near i j ≡ true → (i < n) ⊎ (n ≤ i) → hasPair (meetPairs meets words 0 n) i j ≡ true
+      go e (inl l) = meet-in i j 0 n (omega arith) (omega arith) e
+      go e (inr l) = absurd (none l e)
 
 -- ---- the pairs of the addressed
 
@@ -261,9 +266,12 @@ join true h h′ y y′ = ap (λ (x : Bool). (h || h′) || x) (or-false (y || y
 join false h h′ y y′ = refl
 
 module _ {us words meets a : List ℕ} (p : Program) (file : List ℕ) (k : Numbered us words) (g : Gathered us (stops one p) meets)
-    (ad : Addressed (allUses one p) a) (same : declared file ≡ p .storages) where
+    (ad : Addressed (allUses one p) a) (same : declared file ≡ p .storages) (n : ℕ) (few : n ≤ 256) (above : Above words (length us) n) where
   clash-is : (i j : ℕ) → i < 256 → hasPair (clashes one p) i j ≡ near meets words i j
   clash-is i j h = stops-clashes one i j p ∙ gathered-clashes k g i j h
+
+  pairs-are : (i j : ℕ) → i < 256 → hasPair (meetPairs meets words 0 n) i j ≡ near meets words i j
+  pairs-are i j h = pair-meet meets words n i j (λ l e. none-above n k above g i j l (gathered-clashes k g i j h ∙ e))
 
   held-is : (i j : ℕ) → i < 256 → j < 256 → hasPair (holdPairs a (declared file)) i j ≡ (not (eqb i j) && held one p i j)
   unfolding held sameOwner addressed
@@ -271,15 +279,15 @@ module _ {us words meets a : List ℕ} (p : Program) (file : List ℕ) (k : Numb
       ap (λ (l : List Storage). hasPair (holdPairs a l) i j) same ∙ pair-hold a (p .storages) i j hi hj
       ∙ ap (λ (x : Bool). not (eqb i j) && (owned a (p .storages) i j && x)) (ad .holds i hi)
 
-  graph-holds : (i j : ℕ) → i < 256 → j < 256 → memberAt (heldBy file a (closed meets words (replicate 1024 0))) (i * 4) j ≡ interferes one p i j
+  graph-holds : (i j : ℕ) → i < 256 → j < 256 → memberAt (heldBy file a (closed meets words n (replicate 1024 0))) (i * 4) j ≡ interferes one p i j
   unfolding heldBy closed interferes
   graph-holds i j hi hj =
-      member-linked (holdPairs a (declared file)) (linked (meetPairs meets words 0 256) (replicate 1024 0)) i j
-      (length-linked (meetPairs meets words 0 256) (replicate 1024 0) ∙ length-replicate {A = ℕ} 1024 0) (fit-hold a (declared file)) hj
+      member-linked (holdPairs a (declared file)) (linked (meetPairs meets words 0 n) (replicate 1024 0)) i j
+      (length-linked (meetPairs meets words 0 n) (replicate 1024 0) ∙ length-replicate {A = ℕ} 1024 0) (fit-hold a (declared file)) hj
       ∙ ap (λ (x : Bool). (hasPair (holdPairs a (declared file)) i j || hasPair (holdPairs a (declared file)) j i) || x)
-      (member-linked (meetPairs meets words 0 256) (replicate 1024 0) i j (length-replicate {A = ℕ} 1024 0) (fit-meet meets words 0 256 (omega arith)) hj
+      (member-linked (meetPairs meets words 0 n) (replicate 1024 0) i j (length-replicate {A = ℕ} 1024 0) (fit-meet meets words 0 n (omega arith)) hj
       ∙ ap₂ (λ (x y : Bool). x || y)
-      (ap₂ (λ (x y : Bool). x || y) (pair-meet meets words i j hi) (pair-meet meets words j i hj ∙ turned (has i (storagesAt words (members (row meets (j * 8) 8))))))
+      (ap₂ (λ (x y : Bool). x || y) (pairs-are i j hi) (pairs-are j i hj ∙ turned (has i (storagesAt words (members (row meets (j * 8) 8))))))
       (at-none 1024 (i * 4) j))
       ∙ ap (λ (x : Bool). x || (((not (eqb i j) && has j (storagesAt words (members (row meets (i * 8) 8)))) || (not (eqb i j) && has i (storagesAt words (members (row meets (j * 8) 8))))) || false))
       (ap₂ (λ (x y : Bool). x || y) (held-is i j hi hj) (held-is j i hj hi ∙ turned (held one p j i)))
@@ -290,12 +298,12 @@ module _ {us words meets a : List ℕ} (p : Program) (file : List ℕ) (k : Numb
       turned : (x : Bool) → (not (eqb j i) && x) ≡ (not (eqb i j) && x)
       turned x = ap (λ (t : Bool). not t && x) (eqb-sym j i)
 
-  pub graph-is : heldBy file a (closed meets words (replicate 1024 0)) ≡ relationRows one (interferes one p) 0 256
+  pub graph-is : heldBy file a (closed meets words n (replicate 1024 0)) ≡ relationRows one (interferes one p) 0 256
   unfolding heldBy closed
   graph-is =
-      relation-is (interferes one p) (heldBy file a (closed meets words (replicate 1024 0)))
-      (length-linked (holdPairs a (declared file)) (closed meets words (replicate 1024 0)) ∙ length-linked (meetPairs meets words 0 256) (replicate 1024 0) ∙ length-replicate {A = ℕ} 1024 0)
-      (words-linked (holdPairs a (declared file)) (closed meets words (replicate 1024 0)) (words-linked (meetPairs meets words 0 256) (replicate 1024 0) (words-none 1024)))
+      relation-is (interferes one p) (heldBy file a (closed meets words n (replicate 1024 0)))
+      (length-linked (holdPairs a (declared file)) (closed meets words n (replicate 1024 0)) ∙ length-linked (meetPairs meets words 0 n) (replicate 1024 0) ∙ length-replicate {A = ℕ} 1024 0)
+      (words-linked (holdPairs a (declared file)) (closed meets words n (replicate 1024 0)) (words-linked (meetPairs meets words 0 n) (replicate 1024 0) (words-none 1024)))
       graph-holds
 
 pub copies-is : {c : List ℕ} (p : Program) → Paired (allUses one p) c → c ≡ relationRows one (copied one p) 0 256

@@ -4,7 +4,7 @@ use mathlib.Core.Path.{_≡_, refl, sym, ap, ap₂, _∙_, subst}
 use mathlib.Core.Logic.{_⊎_, inl, inr}
 use mathlib.Core.Bool.{Bool, true, false, not, _&&_, _||_, or-comm, and-eq-true-iff, and-or-distrib-left}
 use mathlib.Core.List.{List, [], _∷_, _++_, map, List·Memᴰ, List·Memᴰ·head, List·Memᴰ·tail, List·Memᴰ·not-nil, List·Memᴰ·append-cases, Memᴰ·append-left, Memᴰ·append-right}
-use Prim.Native.Nat.{ℕ, _+_, _-_, _*_, _/_, _%_, _<_, min, max}
+use Prim.Native.Nat.{ℕ, _+_, _-_, _*_, _/_, _%_, _≤_, _<_, min, max}
 use native.Mathlib.Omega.{arith}
 use lib.Bits.{bitOr}
 use lib.Dec.{eqb, ltb}
@@ -30,6 +30,7 @@ use Rattle.liveness.proofs.SetLaws.{eqb-sym, any-cons, any-nil, any-append, any
 use Rattle.graph.specs.Graph.{hasPair, inStorage, isCopy, spared, clash, clashesAt, clashesIn, clashesFrom, clashesOf, clashes, copiesAt}
 use Rattle.meetings.specs.Members.{members}
 use Rattle.meetings.specs.Meeting.{storageAt, storagesAt, unitRows, lessRows, wanted, met, pairsTo, copyPairs, copiesNoted, addressedNoted}
+use Rattle.meetings.specs.Closing.{Above}
 use Rattle.graph.specs.Gathered.{Stop, stopsIn, stopsFrom, stopsOf, stops, Numbered, Within, UnitRows, wants, Gathered, Paired, Addressed}
 use Rattle.graph.proofs.PairLaws.{pair-each, pair-append}
 use Rattle.graph.proofs.Anys.{and-in, not-eqb, not-eqb-out, any-out, any-in, mem-select, select-mem, has-mem, mem-has, has-map-out, has-map-in, has-at, pair-map, pair-nil}
@@ -182,6 +183,7 @@ pub gathered-none : (us : List ℕ) → Gathered us [] (replicate 2048 0)
 gathered-none us = record {
   len = length-replicate {A = ℕ} 2048 0;
   known = λ p m. absurd (List·Memᴰ·not-nil m);
+  written = λ p m. absurd (List·Memᴰ·not-nil m);
   holds = λ i n h. at-none 2048 (i * 8) n ∙ sym (any-nil _);
 }
 
@@ -191,6 +193,7 @@ pub gathered-on : {us words units : List ℕ} {ps : List Stop} {meets : List ℕ
 gathered-on {us} {words} {units} {ps} {meets} k u g s live wr ww wl = record {
   len = meet-length k u s live wr meets (g .len);
   known = known;
+  written = written;
   holds = λ i n h.
       meet-adds k u s live wr ww meets i n (g .len) h
       ∙ ap (λ (x : Bool). (inStorage one (s .writes) i && wants us s live n) || x) (g .holds i n h)
@@ -205,11 +208,16 @@ gathered-on {us} {words} {units} {ps} {meets} k u g s live wr ww wl = record {
     known p (List·Memᴰ·head e) v h = here v (either _ _ (sym (has-append v (s .reads) live) ∙ subst (λ (q : Stop). has v (q .0 .reads ++ q .1) ≡ true) e h))
     known p (List·Memᴰ·tail m) v h = g .known p m v h
 
+    written : (p : Stop) → List·Memᴰ p ((s, live) ∷ ps) → Within us (p .0 .writes)
+    written p (List·Memᴰ·head e) v h = ww v (subst (λ (q : Stop). has v (q .0 .writes) ≡ true) e h)
+    written p (List·Memᴰ·tail m) v h = g .written p m v h
+
 -- The order of the steps does not matter.
 pub gathered-swap : {us : List ℕ} {meets : List ℕ} (ps qs : List Stop) → Gathered us (ps ++ qs) meets → Gathered us (qs ++ ps) meets
 gathered-swap {us} ps qs g = record {
   len = g .len;
   known = λ p m. g .known p (turn p (List·Memᴰ·append-cases qs m));
+  written = λ p m. g .written p (turn p (List·Memᴰ·append-cases qs m));
   holds = λ i n h. g .holds i n h ∙ any-append _ ps qs ∙ or-comm (any _ ps) (any _ qs) ∙ sym (any-append _ qs ps);
 }
   where
@@ -264,6 +272,15 @@ module _ (s : Use) (live : List ℕ) (i j : ℕ) where
       (any-in _ (select-mem (clash one s (c .w)) (has-mem (c .v) (s .reads ++ live) (c .wanted-there))
       (and-in _ _ (not-eqb (storageOf one (c .w)) (storageOf one (c .v)) (λ e. d (sym (c .of-i) ∙ e ∙ c .of-j))) (c .unspared)))
       (and-in _ _ (eq-eqb _ _ (c .of-i)) (eq-eqb _ _ (c .of-j))))
+
+-- Where all units are of storages below n, no storage from n on clashes: a step writes units of the file alone.
+pub none-above : {us words meets : List ℕ} {ps : List Stop} (n : ℕ) → Numbered us words → Above words (length us) n → Gathered us ps meets → (i j : ℕ) → n ≤ i
+    → any (λ (p : Stop). hasPair (clashesAt one (p .0) (p .1)) i j) ps ≡ true → ⊥
+none-above {us} {words} {ps = ps} n k above g i j high h =
+    let a = any-out (λ (p : Stop). hasPair (clashesAt one (p .0) (p .1)) i j) ps h in
+    let c = clash-out (a .0 .0) (a .0 .1) i j (a .2) .0 in
+    let b = has-at (c .w) us (g .written (a .0) (a .1) (c .w) (c .writes)) in
+    omega (arith, above .below (b .0) (b .1), ap (storageOf one) (word-at k (b .0) (b .1) ∙ b .2) ∙ c .of-i)
 
 -- ---- the meetings are the clashes
 

@@ -19,7 +19,7 @@ use Rattle.graph.specs.declared.Graphed.{Graphed}
 use Rattle.graph.specs.Gathered.{Stop, stopsIn, stopsFrom, stopsOf, stops, Paired, Addressed}
 use Rattle.graph.specs.Walking.{usesAt, Noted, Granted, AllTaken, Counted, Whole}
 use Rattle.meetings.specs.Meeting.{unitRows}
-use Rattle.meetings.specs.Closing.{closed, heldBy}
+use Rattle.meetings.specs.Closing.{closed, Above, heldBy}
 use Rattle.graph.proofs.Closing.{graph-is, copies-is}
 use Rattle.storages.proofs.Declared.{declared-is}
 
@@ -77,13 +77,14 @@ granted-all f us found table words rows count c e = record {
 }
 
 pub whole-all : (f us found table words : List ℕ) (count passes : ℕ) (rows meets copies addressed graph graph₁ graph′ : List ℕ) → Counted f us found table words count
-    → AllTaken f us passes rows meets copies addressed → graph ≡ blank 1024 → graph₁ ≡ closed meets words graph → graph′ ≡ heldBy f addressed graph₁
+    → AllTaken f us passes rows meets copies addressed → graph ≡ blank 1024 → (n : ℕ) → (n ≤ 256) × Above words count n → graph₁ ≡ closed meets words n graph
+    → graph′ ≡ heldBy f addressed graph₁
     → Whole f us passes rows graph′ copies
 unfolding blank
-whole-all f us found table words count passes rows meets copies addressed graph graph₁ graph′ c t e p q = record {
+whole-all f us found table words count passes rows meets copies addressed graph graph₁ graph′ c t e n a p q = record {
   sums = t .sums;
   live = t .live;
-  graph-is = q ∙ ap (heldBy f addressed) (p ∙ ap (closed meets words) e)
-      ∙ graph-is (program one f) f (record { few = units-most f us (c .ready .accepted); words-are = c .words-are }) (t .noted .gathered) (addressed-all f us meets copies addressed (t .noted)) (declared-is f us (c .ready .accepted));
+  graph-is = q ∙ ap (heldBy f addressed) (p ∙ ap (closed meets words n) e)
+      ∙ graph-is (program one f) f (record { few = units-most f us (c .ready .accepted); words-are = c .words-are }) (t .noted .gathered) (addressed-all f us meets copies addressed (t .noted)) (declared-is f us (c .ready .accepted)) n (a .0) (subst (λ (m : ℕ). Above words m n) (c .many) (a .1));
   copies-are = copies-all f us meets copies addressed (t .noted);
 }

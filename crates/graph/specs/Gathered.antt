@@ -57,6 +57,7 @@ wants us s live n = ltb n (length us) && (has (getD us n 0) (s .reads ++ live) &
 pub record Gathered (us : List ℕ) (ps : List Stop) (meets : List ℕ) : Type 0 where
   pub len : length meets ≡ 2048
   pub known : (p : Stop) → List·Memᴰ p ps → Within us (p .0 .reads ++ p .1)
+  pub written : (p : Stop) → List·Memᴰ p ps → Within us (p .0 .writes)
   pub holds : (i n : ℕ) → n < 512 → memberAt meets (i * 8) n ≡ any (λ (p : Stop). inStorage one (p .0 .writes) i && wants us (p .0) (p .1) n) ps
 
 -- The pairs of the copies among these steps.

@@ -14,6 +14,7 @@ use liveness::survey::seek;
 use liveness::survey::survey;
 use meetings::close::close;
 use meetings::close::hold;
+use meetings::close::ids_below;
 use meetings::meet::meet;
 use meetings::meet::note_addressed;
 use meetings::meet::note_copies;
@@ -472,7 +473,8 @@ pub fn graph_of(
         copies,
         &mut addressed,
     );
-    close(&meets, words, graph);
+    let n = ids_below(words, count);
+    close(&meets, words, n, graph);
     hold(file, &addressed, graph);
     passes
 }

@@ -1,6 +1,7 @@
 -- Three walks that link pairs of storages: over the units that one storage meets, over all storages, and over the storage records of a file. What is still
 -- ahead makes of the graph now what the whole makes of the graph at the start, so at the end the graph is that.
 use mathlib.Core.Path.{_≡_, refl, sym, ap, _∙_}
+use mathlib.Core.Logic.{_⊎_, inl, inr}
 use mathlib.Core.Bool.{Bool, true, false}
 use mathlib.Core.List.{List, [], _∷_, _++_}
 use Prim.Native.Nat.{ℕ, zero, suc, _+_, _-_, _*_, _≤_, _<_}
@@ -10,15 +11,15 @@ use lib.ListN.{length, take, drop}
 use lib.Seq.{drop-drop}
 use borrow.Author.Tests.{eq-eqb, ne-eqb}
 use Rattle.rows.specs.Row.{memberAt, withAt, row}
-use Rattle.rows.proofs.Rows.{length-row}
+use Rattle.rows.proofs.Rows.{lt-or-ge, length-row}
 use Rattle.fields.specs.Pick.{pick, pick-yes, pick-no, _and_}
 use Rattle.fields.specs.Record.{Storage, u16At, storageIn}
 use Rattle.storages.specs.File.{opensStorage, storagesBy, declared}
 use Rattle.storages.proofs.Declared.{opens-inside}
 use Rattle.units.specs.Sets.{each}
 use Rattle.meetings.specs.Members.{Filled, members}
-use Rattle.meetings.specs.Meeting.{storagesAt}
-use Rattle.meetings.specs.Closing.{linked, apart, apartAll, meetPairs, closed, ownPair, ownPairs}
+use Rattle.meetings.specs.Meeting.{storageAt, storagesAt}
+use Rattle.meetings.specs.Closing.{linked, apart, apartAll, meetPairs, closed, Above, ownPair, ownPairs}
 use Rattle.meetings.proofs.Firsts.{no-members}
 
 pub linked-append : (ps qs : List (ℕ × ℕ)) (g : List ℕ) → linked (ps ++ qs) g ≡ linked qs (linked ps g)
@@ -60,36 +61,47 @@ link-none i words r g n f h = sym (ap (λ (ns : List ℕ). linked (apartAll i (s
 
 -- ---- all storages
 
-pub record Closing (meets words start now : List ℕ) (i : ℕ) : Type 0 where
+pub record Closing (meets words : List ℕ) (n : ℕ) (start now : List ℕ) (i : ℕ) : Type 0 where
   pub len : length now ≡ 1024
-  pub high : i ≤ 256
-  pub same : linked (meetPairs meets words i (256 - i)) now ≡ closed meets words start
+  pub high : i ≤ n
+  pub same : linked (meetPairs meets words i (n - i)) now ≡ closed meets words n start
 
-module _ (meets words start : List ℕ) where
-  pub close-start : length start ≡ 1024 → Closing meets words start start 0
+module _ (meets words : List ℕ) (n : ℕ) (start : List ℕ) where
+  pub close-start : length start ≡ 1024 → Closing meets words n start start 0
   unfolding closed
-  close-start l = record { len = l; high = omega arith; same = refl }
+  close-start l = record { len = l; high = omega arith; same = ap (λ (k : ℕ). linked (meetPairs meets words 0 k) start) (omega arith) }
 
-  module _ {now : List ℕ} {i : ℕ} (c : Closing meets words start now i) where
-    pub close-on : (r next : List ℕ) → i < 256 → length next ≡ 1024 → r ≡ row meets (i * 8) 8
-        → next ≡ linked (apartAll i (storagesAt words (members r))) now → Closing meets words start next (i + 1)
+  module _ {now : List ℕ} {i : ℕ} (c : Closing meets words n start now i) where
+    pub close-on : (r next : List ℕ) → i < n → length next ≡ 1024 → r ≡ row meets (i * 8) 8
+        → next ≡ linked (apartAll i (storagesAt words (members r))) now → Closing meets words n start next (i + 1)
     unfolding meetPairs
     close-on r next h l e q =
-        let a : 256 - i ≡ suc (256 - (i + 1)) = omega arith in
+        let a : n - i ≡ suc (n - (i + 1)) = omega arith in
         let b : i + 1 ≡ suc i = omega arith in
         record {
           len = l;
           high = omega arith;
           same =
-              ap (λ (k : ℕ). linked (meetPairs meets words k (256 - (i + 1))) next) b
-              ∙ ap (linked (meetPairs meets words (suc i) (256 - (i + 1)))) (q ∙ ap (λ (y : List ℕ). linked (apartAll i (storagesAt words (members y))) now) e)
-              ∙ sym (linked-append (apartAll i (storagesAt words (members (row meets (i * 8) 8)))) (meetPairs meets words (suc i) (256 - (i + 1))) now)
+              ap (λ (k : ℕ). linked (meetPairs meets words k (n - (i + 1))) next) b
+              ∙ ap (linked (meetPairs meets words (suc i) (n - (i + 1)))) (q ∙ ap (λ (y : List ℕ). linked (apartAll i (storagesAt words (members y))) now) e)
+              ∙ sym (linked-append (apartAll i (storagesAt words (members (row meets (i * 8) 8)))) (meetPairs meets words (suc i) (n - (i + 1))) now)
               ∙ ap (λ (k : ℕ). linked (meetPairs meets words i k) now) (sym a) ∙ c .same;
         }
 
-    pub close-end : 256 ≤ i → now ≡ closed meets words start
+    pub close-end : n ≤ i → now ≡ closed meets words n start
     unfolding meetPairs linked
-    close-end h = let a : 256 - i ≡ 0 = omega arith in ap (λ (k : ℕ). linked (meetPairs meets words i k) now) (sym a) ∙ c .same
+    close-end h = let a : n - i ≡ 0 = omega arith in ap (λ (k : ℕ). linked (meetPairs meets words i k) now) (sym a) ∙ c .same
+
+-- A unit more, of a storage below a number that is no lower.
+pub above-on : (words : List ℕ) (n top i next : ℕ) → Above words n top → i ≡ storageAt words n → top ≤ next → i + 1 ≤ next → Above words (n + 1) next
+above-on words n top i next h e a b = record { below = λ k l. go k l (lt-or-ge k n) }
+  where
+    go : (k : ℕ) → k < n + 1 → (k < n) ⊎ (n ≤ k) → storageAt words k < next
+    go k l (inl m) = omega (arith, h .below k m)
+    go k l (inr m) = let same : k ≡ n = omega arith in omega (arith, ap (storageAt words) same)
+
+pub above-all : (words : List ℕ) (n count top : ℕ) → count ≤ n → Above words n top → Above words count top
+above-all words n count top h a = record { below = λ k l. a .below k (omega arith) }
 
 -- ---- the storage records of a file
 

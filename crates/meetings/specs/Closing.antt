@@ -1,7 +1,7 @@
 -- The graph in its buffer: what the rows of meetings and the addressed storages come to. Document 01, "Liveness and interference". Row i of the graph
 -- stands at 4 i. The laws of proofs/Closing.antt say that this is the graph of specs/Graph.antt.
 use mathlib.Core.List.{List, [], _∷_, _++_}
-use Prim.Native.Nat.{ℕ, zero, suc, _*_}
+use Prim.Native.Nat.{ℕ, zero, suc, _*_, _<_}
 use lib.Dec.{eqb, ltb}
 use Rattle.rows.specs.Row.{memberAt, withAt, row}
 use Rattle.fields.specs.Pick.{pick, _and_}
@@ -9,7 +9,7 @@ use Rattle.fields.specs.Record.{Storage}
 use Rattle.storages.specs.File.{declared}
 use Rattle.units.specs.Sets.{each}
 use Rattle.meetings.specs.Members.{members}
-use Rattle.meetings.specs.Meeting.{storagesAt}
+use Rattle.meetings.specs.Meeting.{storageAt, storagesAt}
 
 -- Each pair both ways.
 unfoldable pub linked : List (ℕ × ℕ) → List ℕ → List ℕ
@@ -29,8 +29,13 @@ unfoldable pub meetPairs : List ℕ → List ℕ → ℕ → ℕ → List (ℕ �
 meetPairs meets words i zero = []
 meetPairs meets words i (suc n) = apartAll i (storagesAt words (members (row meets (i * 8) 8))) ++ meetPairs meets words (suc i) n
 
-unfoldable pub closed : List ℕ → List ℕ → List ℕ → List ℕ
-closed meets words graph = linked (meetPairs meets words 0 256) graph
+-- The first n storages.
+unfoldable pub closed : List ℕ → List ℕ → ℕ → List ℕ → List ℕ
+closed meets words n graph = linked (meetPairs meets words 0 n) graph
+
+-- All units that are numbered are of storages below n.
+pub record Above (words : List ℕ) (count n : ℕ) : Type 0 where
+  pub below : (k : ℕ) → k < count → storageAt words k < n
 
 -- An addressed storage with one more of its owner. An id past the last is left out; an accepted file has none.
 unfoldable pub ownPair : ℕ → ℕ → Storage → List (ℕ × ℕ)

@@ -11,7 +11,7 @@ ghost use Rattle.storages.specs.File.{declared};
 ghost use Rattle.units.specs.Sets.{each};
 ghost use Rattle.meetings.specs.Members.{ahead, members};
 ghost use Rattle.meetings.specs.Meeting.{storagesAt};
-ghost use Rattle.meetings.specs.Closing.{linked, apart, apartAll, closed, ownPair, ownPairs, heldBy};
+ghost use Rattle.meetings.specs.Closing.{linked, apart, apartAll, closed, Above, ownPair, ownPairs, heldBy};
 use crate::meet::storage_of;
 use crate::members::low_bit;
 use crate::members::next_word;
@@ -70,12 +70,31 @@ pub fn close_row(row: &[u64], words: &[u32], graph: &mut [u64], i: usize)
     }
 }
 
-// Every storage with those that it meets.
-pub fn close(meets: &[u64], words: &[u32], graph: &mut [u64])
-    requires { ⌜ (length (now meets) ≡ 2048) × (length (now words) ≡ 512) × (length (now graph) ≡ 1024) ⌝ }
-    ensures { λ _. ⌜ now (graph .exit) ≡ closed (now (meets .entry)) (now (words .entry)) (now (graph .entry)) ⌝ }
+// The number above both.
+fn higher(a: usize, b: usize) -> usize
+    ensures { λ r. ⌜ (a ≤ r) × (b ≤ r) × (a ≤ 256 → b ≤ 256 → r ≤ 256) ⌝ }
 {
-    for i in 0..256 {
+    if a < b { b } else { a }
+}
+
+// A number above the ids of all storages with units: the others meet nothing.
+pub fn ids_below(words: &[u32], count: usize) -> usize
+    requires { ⌜ (length (now words) ≡ 512) × (count ≤ 512) ⌝ }
+    ensures { λ r. ⌜ (r ≤ 256) × Above (now (words .entry)) count r ⌝ }
+{
+    let mut top = 0;
+    for n in 0..count {
+        top = higher(top, storage_of(words[n]) + 1);
+    }
+    top
+}
+
+// The first n storages, each with those that it meets.
+pub fn close(meets: &[u64], words: &[u32], n: usize, graph: &mut [u64])
+    requires { ⌜ (length (now meets) ≡ 2048) × (length (now words) ≡ 512) × (n ≤ 256) × (length (now graph) ≡ 1024) ⌝ }
+    ensures { λ _. ⌜ now (graph .exit) ≡ closed (now (meets .entry)) (now (words .entry)) n (now (graph .entry)) ⌝ }
+{
+    for i in 0..n {
         close_row(row_of(meets, i * 8), words, graph, i);
     }
 }

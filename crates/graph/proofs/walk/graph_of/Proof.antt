@@ -27,17 +27,20 @@ take-functions-requires c κs =
     let p = c .before .before .before .before .before .before .before .before .before .before .before .before .before .before .before .pre in
     (p .0, p .2, p .3, p .4, search needs, p .6, blank-is 2048, p .8, blank-is 4, (p .9 .0, granted-all _ _ _ _ _ _ _ (p .9 .1) (c .before .before .before .before .before .before .unit-rows .ensures)))
 
+ids-below-requires : tie.Need-ids-below-requires
+ids-below-requires c κs = let p = c .before .before .before .before .before .before .before .before .before .before .before .before .before .before .before .before .before .before .before .before .before .before .pre in (p .4, p .5)
+
 slice-aggregate-close : tie.Need-slice-aggregate-close
 slice-aggregate-close c = search needs
 
 close-requires : tie.Need-close-requires
-close-requires c κs = (search needs, search needs, blank-length _ _ (c .before .before .before .before .before .before .before .before .before .before .before .before .before .before .before .before .before .before .before .before .before .before .before .before .pre .7))
+close-requires c κs = (search needs, search needs, c .before .before .ids-below .ensures .0, blank-length _ _ (c .before .before .before .before .before .before .before .before .before .before .before .before .before .before .before .before .before .before .before .before .before .before .before .before .before .pre .7))
 
 slice-aggregate-hold : tie.Need-slice-aggregate-hold
 slice-aggregate-hold c = search needs
 
 hold-requires : tie.Need-hold-requires
-hold-requires c κs = let p = c .before .before .before .before .before .before .before .before .before .before .before .before .before .before .before .before .before .before .before .before .before .before .before .before .before .before .before .before .before .pre in (p .1, search needs, omega (arith, blank-length _ _ (p .7)))
+hold-requires c κs = let p = c .before .before .before .before .before .before .before .before .before .before .before .before .before .before .before .before .before .before .before .before .before .before .before .before .before .before .before .before .before .before .pre in (p .1, search needs, omega (arith, blank-length _ _ (p .7)))
 
 same-length : tie.Need-same-length
 same-length c = search needs
@@ -50,10 +53,11 @@ same-length-3 c = search needs
 
 returns : tie.Need-returns
 returns c =
-    let c16 = c .before .before .before .before .before .before .before .before .before .before .before .before .before .before .before .before in
-    let c23 = c16 .before .before .before .before .before .before .before in
-    let start = c23 .before .before .before .before .before .before .before .before .before in
-    λ us k. whole-all _ us _ _ _ _ _ _ _ _ _ _ _ _ k (c16 .take-functions .ensures us (granted-all _ us _ _ _ _ _ k (c23 .unit-rows .ensures))) (start .pre .7) (c .before .before .before .before .before .before .before .close .ensures) (c .before .before .hold .ensures)
+    let c10 = c .before .before .before .before .before .before .before .before .before .before in
+    let c17 = c10 .before .before .before .before .before .before .before in
+    let c24 = c17 .before .before .before .before .before .before .before in
+    let start = c24 .before .before .before .before .before .before .before .before .before in
+    λ us k. whole-all _ us _ _ _ _ _ _ _ _ _ _ _ _ k (c17 .take-functions .ensures us (granted-all _ us _ _ _ _ _ k (c24 .unit-rows .ensures))) (start .pre .7) _ (c10 .ids-below .ensures) (c .before .before .before .before .before .before .before .close .ensures) (c .before .before .hold .ensures)
 
 pub graph-of-spec : {M : Type 1} → statement M
 graph-of-spec =
@@ -65,6 +69,7 @@ graph-of-spec =
     slice-aggregate-take-functions-2
     slice-aggregate-take-functions-3
     take-functions-requires
+    ids-below-requires
     slice-aggregate-close
     close-requires
     slice-aggregate-hold

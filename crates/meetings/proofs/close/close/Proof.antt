@@ -7,13 +7,13 @@ use Rattle.meetings.proofs.close.close.Statement.{statement}
 use Rattle.meetings.proofs.close.close.Tie as tie
 
 abbrev Inv-loop : tie.InvT-loop
-Inv-loop meets words graph₀ i₀ graph i = Closing meets words graph₀ graph i
+Inv-loop meets words n graph₀ i₀ graph i = Closing meets words n graph₀ graph i
 
 abbrev μ-loop : tie.MeasureT-loop
-μ-loop meets words graph₀ i₀ graph i = 256 - i
+μ-loop meets words n graph₀ i₀ graph i = n - i
 
 loop-holds : tie.Need-loop-holds Inv-loop μ-loop
-loop-holds c = close-start _ _ _ (omega arith)
+loop-holds c = close-start _ _ _ _ (omega arith)
 
 mul-row-of : tie.Need-mul-row-of Inv-loop μ-loop
 mul-row-of c = omega arith
@@ -34,13 +34,13 @@ loop-again : tie.Need-loop-again Inv-loop μ-loop
 loop-again c =
     let u = c .before .before in
     let w = u .before .before .before in
-    close-on _ _ _ (w .before .loop .inv) _ _ (w .loop-test .taken) (omega arith) (u .before .before .row-of .ensures .0) (u .close-row .ensures)
+    close-on _ _ _ _ (w .before .loop .inv) _ _ (w .loop-test .taken) (omega arith) (u .before .before .row-of .ensures .0) (u .close-row .ensures)
 
 same-length : tie.Need-same-length Inv-loop μ-loop
 same-length c = omega arith
 
 returns : tie.Need-returns Inv-loop μ-loop
-returns c = close-end _ _ _ (c .before .loop .inv) (c .loop-test .left)
+returns c = close-end _ _ _ _ (c .before .loop .inv) (c .loop-test .left)
 
 pub close-spec : {M : Type 1} → statement M
 close-spec =
