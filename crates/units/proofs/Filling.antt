@@ -4,7 +4,7 @@ use mathlib.Core.Path.{_≡_, refl, sym, ap, _∙_}
 use mathlib.Core.Logic.{inl, inr}
 use mathlib.Core.Bool.{Bool, true, false, true≢false, _||_}
 use mathlib.Core.List.{List, [], _∷_, map}
-use Prim.Native.Nat.{ℕ, zero, suc, _+_, _*_, _≤_, _<_}
+use Prim.Native.Nat.{ℕ, zero, suc, _+_, _*_, _/_, _%_, _^_, _≤_, _<_}
 use native.Mathlib.Omega.{arith}
 use lib.Dec.{ltb, leb, eqb}
 use lib.ListN.{length, getD, take, drop, replicate, length-drop, length-map}
@@ -13,7 +13,7 @@ use borrow.Author.Tests.{ltb-true, ltb-false, leb-true, eqb-true, eqb-false, eq-
 use Rattle.rows.specs.Row.{withAt, pack}
 use Rattle.rows.proofs.Pack.{pack-ext, pack-none, pack-with-at}
 use Rattle.rows.proofs.Members.{length-with-at}
-use Rattle.fields.specs.Pick.{pick, pick-no, _and_, _or_, has, All}
+use Rattle.fields.specs.Pick.{pick, pick-yes, pick-no, _and_, _or_, has, All}
 use Rattle.fields.specs.Edition.{one}
 use Rattle.fields.specs.Record.{Abi, Operand, Rec, header, storage, function, abi, block, instruction, operand, terminator, target, end, Read, whole, fault, read, recordAt, u8At, lengthOf, wordOf, headerAt, abiIn, operandIn, instructionAt, terminatorAt}
 use Rattle.records.specs.Units.{numberIn, noUnit}
@@ -31,7 +31,7 @@ use Rattle.units.specs.Uses.{unitsIn, unitsOf}
 use Rattle.units.specs.Rows.{listed, unitRow}
 use Rattle.records.specs.Index.{brought}
 use Rattle.units.specs.Along.{from, numbersIn, Stands, IsStep}
-use Rattle.units.specs.Marks.{jotted, marks, rolesIn, fieldsIn, opensSeven}
+use Rattle.units.specs.Marks.{jotted, marks, rolesIn, fieldsIn, opensSeven, readIn, writtenIn}
 use Rattle.units.proofs.Standing.{aligned, stands-inside, units-once, units-most, stands-on}
 
 -- The record at a place, by its kind ---------------------------------------------------------------------------------------------------------
@@ -224,6 +224,40 @@ step-on f us ok at k i l s = go i
     go (inr e) = rw (ap brought (kind-terminator (drop at f) e), z) at (stands-on f us ok at k s 4 (recordAt one (drop at f)) (over 7 e (length-one 7)))
 
 -- What the loops hold ----------------------------------------------------------------------------------------------------------------------------
+
+pub either-way : {A : Type 0} (b : Bool) (x : A) → pick b x x ≡ x
+unfolding pick
+either-way true x = refl
+either-way false x = refl
+
+module _ (wanted : Bool) (n : ℕ) (row : List ℕ) where
+  pub jotted-no : wanted ≡ false → jotted wanted n row ≡ row
+  unfolding jotted
+  jotted-no e = pick-no _ _ _ e
+
+  pub jotted-low : n < 512 → jotted wanted n row ≡ pick wanted (withAt row 0 n) row
+  unfolding jotted
+  jotted-low l = ap (λ (x : List ℕ). pick wanted x row) (pick-yes _ _ _ (lt-ltb n 512 l))
+
+  pub jotted-past : 512 ≤ n → jotted wanted n row ≡ row
+  unfolding jotted
+  jotted-past l = ap (λ (x : List ℕ). pick wanted x row) (pick-no _ _ _ (le-ltb n 512 l)) ∙ either-way wanted row
+
+-- By the flags of a field's byte.
+module _ (fields field n : ℕ) (row : List ℕ) where
+  pub jotted-read : (b : ℕ) (row′ : List ℕ) → b ≡ fields / 256 ^ field % 256 → n < 512 → row′ ≡ pick (eqb (b / 64 % 2) 1) (withAt row 0 n) row → row′ ≡ jotted (readIn fields field) n row
+  unfolding readIn
+  jotted-read b row′ e l q = q ∙ ap (λ (x : ℕ). pick (eqb (x / 64 % 2) 1) (withAt row 0 n) row) e ∙ sym (jotted-low _ n row l)
+
+  pub jotted-written : (ends : Bool) (b : ℕ) (row′ : List ℕ) → ends ≡ false → b ≡ fields / 256 ^ field % 256 → n < 512 → row′ ≡ pick (eqb (b / 32 % 2) 1) (withAt row 0 n) row
+      → row′ ≡ jotted (writtenIn fields ends field) n row
+  unfolding writtenIn
+  jotted-written ends b row′ f e l q =
+      q ∙ ap (λ (x : ℕ). pick (eqb (x / 32 % 2) 1) (withAt row 0 n) row) e ∙ sym (jotted-low _ n row l) ∙ ap (λ (t : Bool). jotted t n row) (sym (pick-no ends _ _ f))
+
+  pub jotted-end : (ends : Bool) → ends ≡ true → row ≡ jotted (writtenIn fields ends field) n row
+  unfolding writtenIn
+  jotted-end ends f = sym (jotted-no _ n row (pick-yes ends _ _ f))
 
 pub length-jotted : (wanted : Bool) (n : ℕ) (row : List ℕ) → length (jotted wanted n row) ≡ length row
 unfolding jotted pick

@@ -26,7 +26,7 @@ use Rattle.units.specs.Rows.{unitRow}
 use Rattle.units.specs.Along.{from, Stands, StandsAt, stepFrom, IsStep, Sound, Ready}
 use Rattle.units.specs.Marks.{jotted, marks, Behind, rolesIn, fieldsIn, wantedBy, readIn, writtenIn, calleeIn, takesAbis, readSource, readRole, readAbis, writtenAbis}
 use Rattle.units.specs.declared.cursor.Cursor.{Cursor}
-use Rattle.units.proofs.Filling.{roles-far, fields-count, operands-on, step-on, operand-marks, abi-marks}
+use Rattle.units.proofs.Filling.{roles-far, fields-count, operands-on, step-on, operand-marks, abi-marks, either-way}
 
 -- The fields of a row ----------------------------------------------------------------------------------------------------------------------------
 
@@ -126,11 +126,6 @@ module _ (ns : List ℕ) where
   marks-far : (t : ℕ → Bool) (f row : List ℕ) (k : ℕ) → length f ≤ 65535 → marks t ns k (rolesIn (drop 65535 f)) row ≡ row
   unfolding marks
   marks-far t f row k l = rw (roles-far f 65535 l)
-
-either-way : {A : Type 0} (b : Bool) (x : A) → pick b x x ≡ x
-unfolding pick
-either-way true x = refl
-either-way false x = refl
 
 pub no-units : (us : List ℕ) → replicate 8 0 ≡ unitRow one us []
 unfolding unitRow has pick

@@ -1,8 +1,10 @@
 // What a step reads and writes, as two rows of units, in one visit to its record and operands.
 ghost use mathlib.Core.Path.{_≡_};
 ghost use mathlib.Core.List.{List};
-ghost use Prim.Native.Nat.{ℕ, _+_, _*_, _≤_};
+ghost use Prim.Native.Nat.{ℕ, _+_, _*_, _≤_, _<_};
 ghost use lib.ListN.{length, drop};
+ghost use Rattle.rows.specs.Row.{withAt};
+ghost use Rattle.fields.specs.Pick.{pick};
 ghost use Rattle.fields.specs.Table.{rowWord};
 ghost use Rattle.fields.specs.Edition.{one};
 ghost use Rattle.records.specs.Program.{Function, program, rowBy};
@@ -26,15 +28,23 @@ const RESULTS: u8 = 1;
 
 const OUTCOMES: u8 = 2;
 
-// A unit's number goes into a row where it is wanted; what is no unit has a number past the last.
+// A unit's number goes into a row where it is wanted.
+fn put(row: &mut [u64], n: u16, wanted: bool)
+    requires { ⌜ (length (now row) ≡ 8) × (n < 512) ⌝ }
+    ensures { λ _. ⌜ now (row .exit) ≡ pick wanted (withAt (now (row .entry)) 0 n) (now (row .entry)) ⌝ }
+{
+    if wanted {
+        rows::insert(row, 0, n as usize);
+    }
+}
+
+// The same of a number that may be past the last, where it is no unit's.
 fn note(row: &mut [u64], n: u16, wanted: bool)
     requires { ⌜ length (now row) ≡ 8 ⌝ }
     ensures { λ _. ⌜ now (row .exit) ≡ jotted wanted n (now (row .entry)) ⌝ }
 {
-    if wanted {
-        if n < 512 {
-            rows::insert(row, 0, n as usize);
-        }
+    if n < 512 {
+        put(row, n, wanted);
     }
 }
 
@@ -87,20 +97,21 @@ fn abi_row(tail: &[u8], numbers: &[u16], k: usize, which: u8, row: &mut [u64])
     }
 }
 
-// Whether a step reads a field, and whether it writes it: a terminator writes none.
-fn is_read(fields: u64, field: u8) -> bool
-    ensures { λ r. ⌜ r ≡ readIn fields field ⌝ }
+// An operand's unit number goes into the rows by the flags of its field; a terminator writes none.
+fn note_operand(reads: &mut [u64], writes: &mut [u64], n: u16, fields: u64, ends: bool, field: u8)
+    requires { ⌜ (length (now reads) ≡ 8) × (length (now writes) ≡ 8) ⌝ }
+    ensures { λ _. ⌜ (now (reads .exit) ≡ jotted (readIn fields field) n (now (reads .entry)))
+        × (now (writes .exit) ≡ jotted (writtenIn fields ends field) n (now (writes .entry))) ⌝ }
 {
-    field_in(fields, field) / 64 % 2 == 1
-}
-
-fn is_written(fields: u64, ends: bool, field: u8) -> bool
-    ensures { λ r. ⌜ r ≡ writtenIn fields ends field ⌝ }
-{
-    if ends {
-        return false;
+    if 512 <= n {
+        return;
     }
-    field_in(fields, field) / 32 % 2 == 1
+    let b = field_in(fields, field);
+    put(reads, n, b / 64 % 2 == 1);
+    if ends {
+        return;
+    }
+    put(writes, n, b / 32 % 2 == 1);
 }
 
 // The units of the operands at the front of a tail, by the fields of a row; their numbers stand from k on. Answers how many operands there are.
@@ -121,10 +132,7 @@ fn operand_rows(
     let mut at = 0;
     let mut n = k;
     while opens_seven(tail_of(tail, at), 6) {
-        let field = tail[at + 1];
-        let unit = numbers[n];
-        note(reads, unit, is_read(fields, field));
-        note(writes, unit, is_written(fields, ends, field));
+        note_operand(reads, writes, numbers[n], fields, ends, tail[at + 1]);
         at += 7;
         n += 1;
     }

@@ -30,92 +30,81 @@ tail-of-requires c κs = search needs
 opens-seven-requires : tie.Need-opens-seven-requires Inv-loop μ-loop
 opens-seven-requires c κs = search needs
 
-add-field : tie.Need-add-field Inv-loop μ-loop
-add-field c =
-    let s = c .before .before .before .before .before .before .before .before in
-    let l = c .before .before .before .loop in
-    let e = seven-fits (s .args .tail .now) (l .at) 6 (opened (s .args .tail .now) (l .at) _ 6 _ _ (c .before .before .tail-of .ensures .0) (c .before .opens-seven .ensures) (c .if1 .taken)) in
+mul-note-operand : tie.Need-mul-note-operand Inv-loop μ-loop
+mul-note-operand c =
+    let t = c .before .before in
+    let l = t .before .before .before .loop in
+    let s = t .before .before .before .before .before .before .before .before in
+    let e = seven-fits (s .args .tail .now) (l .at) 6 (opened (s .args .tail .now) (l .at) _ 6 _ _ (t .before .before .tail-of .ensures .0) (t .before .opens-seven .ensures) (t .if1 .taken)) in
     omega (arith, e, l .inv .3, s .pre .0, s .pre .1)
 
-shared-slice-read-field : tie.Need-shared-slice-read-field Inv-loop μ-loop
-shared-slice-read-field c =
-    let s = c .before .before .before .before .before .before .before .before .before in
-    let l = c .before .before .before .before .loop in
-    let e = seven-fits (s .args .tail .now) (l .at) 6 (opened (s .args .tail .now) (l .at) _ 6 _ _ (c .before .before .before .tail-of .ensures .0) (c .before .before .opens-seven .ensures) (c .before .if1 .taken)) in
+shared-slice-read-note-operand : tie.Need-shared-slice-read-note-operand Inv-loop μ-loop
+shared-slice-read-note-operand c =
+    let t = c .before .before .before in
+    let l = t .before .before .before .loop in
+    let s = t .before .before .before .before .before .before .before .before in
+    let e = seven-fits (s .args .tail .now) (l .at) 6 (opened (s .args .tail .now) (l .at) _ 6 _ _ (t .before .before .tail-of .ensures .0) (t .before .opens-seven .ensures) (t .if1 .taken)) in
     omega (arith, e, l .inv .3, s .pre .0, s .pre .1)
 
-mul-unit : tie.Need-mul-unit Inv-loop μ-loop
-mul-unit c =
-    let s = c .before .before .before .before .before .before .before .before .before in
-    let l = c .before .before .before .before .loop in
-    let e = seven-fits (s .args .tail .now) (l .at) 6 (opened (s .args .tail .now) (l .at) _ 6 _ _ (c .before .before .before .tail-of .ensures .0) (c .before .before .opens-seven .ensures) (c .before .if1 .taken)) in
+add-note-operand : tie.Need-add-note-operand Inv-loop μ-loop
+add-note-operand c =
+    let t = c .before .before .before in
+    let l = t .before .before .before .loop in
+    let s = t .before .before .before .before .before .before .before .before in
+    let e = seven-fits (s .args .tail .now) (l .at) 6 (opened (s .args .tail .now) (l .at) _ 6 _ _ (t .before .before .tail-of .ensures .0) (t .before .opens-seven .ensures) (t .if1 .taken)) in
     omega (arith, e, l .inv .3, s .pre .0, s .pre .1)
 
-shared-slice-read-unit : tie.Need-shared-slice-read-unit Inv-loop μ-loop
-shared-slice-read-unit c =
-    let s = c .before .before .before .before .before .before .before .before .before .before in
-    let l = c .before .before .before .before .before .loop in
-    let e = seven-fits (s .args .tail .now) (l .at) 6 (opened (s .args .tail .now) (l .at) _ 6 _ _ (c .before .before .before .before .tail-of .ensures .0) (c .before .before .before .opens-seven .ensures) (c .before .before .if1 .taken)) in
+shared-slice-read-note-operand-2 : tie.Need-shared-slice-read-note-operand-2 Inv-loop μ-loop
+shared-slice-read-note-operand-2 c =
+    let t = c .before .before .before .before in
+    let l = t .before .before .before .loop in
+    let s = t .before .before .before .before .before .before .before .before in
+    let e = seven-fits (s .args .tail .now) (l .at) 6 (opened (s .args .tail .now) (l .at) _ 6 _ _ (t .before .before .tail-of .ensures .0) (t .before .opens-seven .ensures) (t .if1 .taken)) in
     omega (arith, e, l .inv .3, s .pre .0, s .pre .1)
 
-is-read-requires : tie.Need-is-read-requires Inv-loop μ-loop
-is-read-requires c κs = search needs
-
-note-requires : tie.Need-note-requires Inv-loop μ-loop
-note-requires c κs = c .before .before .before .before .before .before .before .loop .inv .0
-
-is-written-requires : tie.Need-is-written-requires Inv-loop μ-loop
-is-written-requires c κs = search needs
-
-note-requires-2 : tie.Need-note-requires-2 Inv-loop μ-loop
-note-requires-2 c κs = c .before .before .before .before .before .before .before .before .before .before .before .before .loop .inv .1
+note-operand-requires : tie.Need-note-operand-requires Inv-loop μ-loop
+note-operand-requires c κs = let l = c .before .before .before .before .before .before .before .loop in (l .inv .0, l .inv .1)
 
 add-at : tie.Need-add-at Inv-loop μ-loop
 add-at c =
-    let c12 = c .before .before .before .before .before .before .before .before .before .before .before .before in
-    let c20 = c12 .before .before .before .before .before .before .before .before in
-    let s = c20 in
-    let l = c12 .before .before .before .loop in
-    let e = seven-fits (s .args .tail .now) (l .at) 6 (opened (s .args .tail .now) (l .at) _ 6 _ _ (c12 .before .before .tail-of .ensures .0) (c12 .before .opens-seven .ensures) (c12 .if1 .taken)) in
+    let t = c .before .before .before .before .before .before .before .before .before in
+    let l = t .before .before .before .loop in
+    let s = t .before .before .before .before .before .before .before .before in
+    let e = seven-fits (s .args .tail .now) (l .at) 6 (opened (s .args .tail .now) (l .at) _ 6 _ _ (t .before .before .tail-of .ensures .0) (t .before .opens-seven .ensures) (t .if1 .taken)) in
     omega (arith, e, l .inv .3, s .pre .0, s .pre .1)
 
 add-n : tie.Need-add-n Inv-loop μ-loop
 add-n c =
-    let c12 = c .before .before .before .before .before .before .before .before .before .before .before .before in
-    let c20 = c12 .before .before .before .before .before .before .before .before in
-    let s = c20 in
-    let l = c12 .before .before .before .loop in
-    let e = seven-fits (s .args .tail .now) (l .at) 6 (opened (s .args .tail .now) (l .at) _ 6 _ _ (c12 .before .before .tail-of .ensures .0) (c12 .before .opens-seven .ensures) (c12 .if1 .taken)) in
+    let t = c .before .before .before .before .before .before .before .before .before in
+    let l = t .before .before .before .loop in
+    let s = t .before .before .before .before .before .before .before .before in
+    let e = seven-fits (s .args .tail .now) (l .at) 6 (opened (s .args .tail .now) (l .at) _ 6 _ _ (t .before .before .tail-of .ensures .0) (t .before .opens-seven .ensures) (t .if1 .taken)) in
     omega (arith, e, l .inv .3, s .pre .0, s .pre .1)
 
 loop-less : tie.Need-loop-less Inv-loop μ-loop
 loop-less c =
-    let c12 = c .before .before .before .before .before .before .before .before .before .before .before .before in
-    let c20 = c12 .before .before .before .before .before .before .before .before in
-    let s = c20 in
-    let l = c12 .before .before .before .loop in
-    let e = seven-fits (s .args .tail .now) (l .at) 6 (opened (s .args .tail .now) (l .at) _ 6 _ _ (c12 .before .before .tail-of .ensures .0) (c12 .before .opens-seven .ensures) (c12 .if1 .taken)) in
+    let t = c .before .before .before .before .before .before .before .before .before in
+    let l = t .before .before .before .loop in
+    let s = t .before .before .before .before .before .before .before .before in
+    let e = seven-fits (s .args .tail .now) (l .at) 6 (opened (s .args .tail .now) (l .at) _ 6 _ _ (t .before .before .tail-of .ensures .0) (t .before .opens-seven .ensures) (t .if1 .taken)) in
     omega (arith, e, l .inv .3, s .pre .0, s .pre .1)
 
 loop-again : tie.Need-loop-again Inv-loop μ-loop
 loop-again c =
-    let c8 = c .before .before .before .before .before .before .before .before in
-    let c12 = c8 .before .before .before .before in
-    let c20 = c12 .before .before .before .before .before .before .before .before in
-    let s = c20 in
-    let l = c12 .before .before .before .loop in
+    let t = c .before .before .before .before .before .before .before .before .before in
+    let l = t .before .before .before .loop in
+    let s = t .before .before .before .before .before .before .before .before in
     let f = s .args .tail .now in
-    let r = c8 .is-read in
-    let w = c .before .before .before .is-written in
-    let e = opened f (l .at) _ 6 _ _ (c12 .before .before .tail-of .ensures .0) (c12 .before .opens-seven .ensures) (c12 .if1 .taken) in
+    let o = c .before .before .before .before .note-operand .ensures in
+    let e = opened f (l .at) _ 6 _ _ (t .before .before .tail-of .ensures .0) (t .before .opens-seven .ensures) (t .if1 .taken) in
     let m : fieldsIn (drop (l .at) f) ≡ getD f (l .at + 1) 0 ∷ fieldsIn (drop (l .at + 7) f) = fields-on f (l .at) e in (
-      ap length (c .before .before .before .before .before .before .before .note .ensures) ∙ length-jotted _ _ _ ∙ l .inv .0,
-      ap length (c .before .before .note2 .ensures) ∙ length-jotted _ _ _ ∙ l .inv .1,
+      ap length (o .0) ∙ length-jotted _ _ _ ∙ l .inv .0,
+      ap length (o .1) ∙ length-jotted _ _ _ ∙ l .inv .1,
       seven-fits f (l .at) 6 e,
       omega (arith, l .inv .3),
       omega (arith, ap length m, l .inv .4),
-      marks-on (readIn (s .args .fields)) (s .args .numbers .now) (l .n) _ _ _ _ _ _ (r .result) m (r .ensures) (c .before .before .before .before .before .before .before .note .ensures) (l .inv .5),
-      marks-on (writtenIn (s .args .fields) (s .args .ends)) (s .args .numbers .now) (l .n) _ _ _ _ _ _ (w .result) m (w .ensures) (c .before .before .note2 .ensures) (l .inv .6),
+      marks-on (readIn (s .args .fields)) (s .args .numbers .now) (l .n) _ _ _ _ _ _ _ m refl (o .0) (l .inv .5),
+      marks-on (writtenIn (s .args .fields) (s .args .ends)) (s .args .numbers .now) (l .n) _ _ _ _ _ _ _ m refl (o .1) (l .inv .6),
     )
 
 sub-result : tie.Need-sub-result Inv-loop μ-loop
@@ -156,14 +145,11 @@ operand-rows-spec =
     loop-holds
     tail-of-requires
     opens-seven-requires
-    add-field
-    shared-slice-read-field
-    mul-unit
-    shared-slice-read-unit
-    is-read-requires
-    note-requires
-    is-written-requires
-    note-requires-2
+    mul-note-operand
+    shared-slice-read-note-operand
+    add-note-operand
+    shared-slice-read-note-operand-2
+    note-operand-requires
     add-at
     add-n
     loop-less
