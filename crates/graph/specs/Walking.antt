@@ -21,7 +21,7 @@ use Rattle.liveness.specs.Flow.{Use, useOf, flows}
 use Rattle.liveness.specs.Settle.{before, settledBy, liveness}
 use Rattle.liveness.specs.Lives.{liveWords}
 use Rattle.liveness.specs.Walks.{FunctionHere}
-use Rattle.liveness.specs.Survey.{blockAt, BeginAt}
+use Rattle.liveness.specs.Survey.{blockAt, BeginAt, RowsAt}
 use Rattle.graph.specs.Graph.{sum, interferes, copied, passes as passesOf}
 use Rattle.graph.specs.Graphs.{relationRows, lastLive}
 use Rattle.graph.specs.Gathered.{Stop, stopsIn, stopsFrom, stopsOf, stops, Numbered, Within, UnitRows, Gathered, Paired, Addressed}
@@ -63,20 +63,39 @@ Fits us s = Within us (s .reads) × Within us (s .writes)
 abbrev pub Sized : List ℕ → List ℕ → List ℕ → Type 0
 Sized meets copies addressed = (length meets ≡ 2048) × (length copies ≡ 1024) × (length addressed ≡ 4)
 
--- One step is noted, and the live row goes over it.
-abbrev pub StepTaken : List ℕ → List ℕ → List ℕ → Cursor → Cursor → List ℕ → List ℕ → List ℕ → List ℕ → List ℕ → List ℕ → List ℕ → List ℕ → List ℕ → List ℕ → Type 0
-StepTaken f found table own here words units live meets copies addressed live′ meets′ copies′ addressed′ =
-    (us : List ℕ) (fn : Function) (out : List ℕ) (ps : List Stop) → Told f us found table words units fn own → StandsAt f here → IsStep f (here .at)
-    → Fits us (useAt f fn (stepFrom f (here .at))) → Within us out → live ≡ unitRow one us out → Noted us ps meets copies addressed
-    → Noted us ((useAt f fn (stepFrom f (here .at)), out) ∷ ps) meets′ copies′ addressed′ × (live′ ≡ unitRow one us (across (useAt f fn (stepFrom f (here .at))) out))
+-- The rows that the survey kept stay; those behind them may change.
+abbrev pub Kept : List ℕ → List ℕ → List ℕ → List ℕ → Type 0
+Kept reads writes reads′ writes′ = (j : ℕ) → j < 64 → (row reads′ (j * 8) 8 ≡ row reads (j * 8) 8) × (row writes′ (j * 8) 8 ≡ row writes (j * 8) 8)
+
+-- The rows of step number i stand at b: they were kept, or they were asked again.
+pub record Found (f found table : List ℕ) (own here : Cursor) (i b : ℕ) (reads writes reads′ writes′ : List ℕ) : Type 0 where
+  pub room : b + 8 ≤ 520
+  pub kept : Kept reads writes reads′ writes′
+  pub rows : (us : List ℕ) (fn : Function) → Ready f us found table → StandsAt f own → fn .abis ≡ from f (own .at) .abis → StandsAt f here → IsStep f (here .at)
+      → RowsAt f us fn reads writes i (stepFrom f (here .at) ∷ [])
+      → (row reads′ b 8 ≡ unitRow one us (useAt f fn (stepFrom f (here .at)) .reads)) × (row writes′ b 8 ≡ unitRow one us (useAt f fn (stepFrom f (here .at)) .writes))
+
+-- Step number i is noted, and the live row goes over it.
+pub record StepTaken (f found table : List ℕ) (own here : Cursor) (i : ℕ) (reads writes words units live meets copies addressed reads′ writes′ live′ meets′ copies′ addressed′ : List ℕ) : Type 0 where
+  pub kept : Kept reads writes reads′ writes′
+  pub noted : (us : List ℕ) (fn : Function) (out : List ℕ) (ps : List Stop) → Told f us found table words units fn own → StandsAt f here → IsStep f (here .at)
+      → RowsAt f us fn reads writes i (stepFrom f (here .at) ∷ []) → Fits us (useAt f fn (stepFrom f (here .at))) → Within us out → live ≡ unitRow one us out
+      → Noted us ps meets copies addressed
+      → Noted us ((useAt f fn (stepFrom f (here .at)), out) ∷ ps) meets′ copies′ addressed′ × (live′ ≡ unitRow one us (across (useAt f fn (stepFrom f (here .at))) out))
+
+-- The lengths of the two arrays in which the survey kept rows.
+abbrev pub Rowed : List ℕ → List ℕ → Type 0
+Rowed reads writes = (length reads ≡ 520) × (length writes ≡ 520)
 
 -- The steps whose places stand from entry i up to entry `last` are noted, the last first.
-pub record BlockTaken (f found table : List ℕ) (own : Cursor) (places counts words units : List ℕ) (last i : ℕ) (live meets copies addressed live′ meets′ copies′ addressed′ : List ℕ) : Type 0 where
+pub record BlockTaken (f found table : List ℕ) (own : Cursor) (places counts words units : List ℕ) (last i : ℕ) (reads writes live meets copies addressed reads′ writes′ live′ meets′ copies′ addressed′ : List ℕ) : Type 0 where
   pub live-len : length live′ ≡ 8
   pub sized : Sized meets′ copies′ addressed′
+  pub rowed : Rowed reads′ writes′
+  pub kept : Kept reads writes reads′ writes′
   pub upto : i ≤ last
   pub noted : (us : List ℕ) (fn : Function) (ss : List Step) (out : List ℕ) (ps : List Stop) → Told f us found table words units fn own
-      → BeginAt f places counts i ss → last ≡ i + length ss → ((s : Step) → List·Memᴰ s ss → Fits us (useAt f fn s)) → Within us out
+      → BeginAt f places counts i ss → RowsAt f us fn reads writes i ss → last ≡ i + length ss → ((s : Step) → List·Memᴰ s ss → Fits us (useAt f fn s)) → Within us out
       → live ≡ unitRow one us out → Noted us ps meets copies addressed
       → Noted us (stopsIn (map (useAt f fn) ss) out ++ ps) meets′ copies′ addressed′ × (live′ ≡ unitRow one us (before (map (useAt f fn) ss) out))
 
@@ -85,23 +104,24 @@ abbrev pub Safe : List ℕ → List ℕ → List ℕ → ℕ → ℕ → Type 0
 Safe f places counts first last = (i : ℕ) → first ≤ i → i < last → (7 * getD counts i 0 ≤ getD places i 0) × (getD places i 0 + 4 ≤ length f)
 
 -- Block number b is noted: its steps come after those that were noted before.
-abbrev pub OneTaken : List ℕ → List ℕ → List ℕ → Cursor → List ℕ → List ℕ → List ℕ → ℕ → List ℕ → List ℕ → List ℕ → List ℕ → List ℕ → List ℕ → List ℕ → List ℕ → List ℕ → Type 0
-OneTaken f found table own places counts firsts b words units rows meets copies addressed meets′ copies′ addressed′ =
-    (us : List ℕ) (fn : Function) (ss : List Step) (out : List ℕ) (ps : List Stop) → Told f us found table words units fn own
-    → BeginAt f places counts (getD firsts b 0) ss → getD firsts (b + 1) 0 ≡ getD firsts b 0 + length ss → ((s : Step) → List·Memᴰ s ss → Fits us (useAt f fn s)) → Within us out
-    → row rows (1024 + b * 8) 8 ≡ unitRow one us out → Noted us ps meets copies addressed
-    → Noted us (ps ++ stopsIn (map (useAt f fn) ss) out) meets′ copies′ addressed′
+pub record OneTaken (f found table : List ℕ) (own : Cursor) (places counts firsts : List ℕ) (b : ℕ) (words units rows reads writes meets copies addressed reads′ writes′ meets′ copies′ addressed′ : List ℕ) : Type 0 where
+  pub kept : Kept reads writes reads′ writes′
+  pub noted : (us : List ℕ) (fn : Function) (ss : List Step) (out : List ℕ) (ps : List Stop) → Told f us found table words units fn own
+      → BeginAt f places counts (getD firsts b 0) ss → RowsAt f us fn reads writes (getD firsts b 0) ss → getD firsts (b + 1) 0 ≡ getD firsts b 0 + length ss
+      → ((s : Step) → List·Memᴰ s ss → Fits us (useAt f fn s)) → Within us out → row rows (1024 + b * 8) 8 ≡ unitRow one us out → Noted us ps meets copies addressed
+      → Noted us (ps ++ stopsIn (map (useAt f fn) ss) out) meets′ copies′ addressed′
 
 -- The entries of each block are steps that lie in the file.
 abbrev pub Ordered : List ℕ → List ℕ → List ℕ → List ℕ → ℕ → Type 0
 Ordered f places counts firsts b =
     (getD firsts b 0 ≤ getD firsts (b + 1) 0) × (getD firsts (b + 1) 0 ≤ 4097) × Safe f places counts (getD firsts b 0) (getD firsts (b + 1) 0)
 
--- Where the steps of a function's blocks begin, and what is live at the end of each.
-pub record Begun (f us : List ℕ) (fn : Function) (places counts firsts rows : List ℕ) (count : ℕ) : Type 0 where
+-- Where the steps of a function's blocks begin, with the rows of those that are kept, and what is live at the end of each.
+pub record Begun (f us : List ℕ) (fn : Function) (reads writes places counts firsts rows : List ℕ) (count : ℕ) : Type 0 where
   pub member : List·Memᴰ fn (program one f .functions)
   pub blocks : count ≡ length (fn .blocks)
   pub steps : (k : ℕ) → k < count → BeginAt f places counts (getD firsts k 0) (blockAt fn k .steps)
+  pub kept : (k : ℕ) → k < count → RowsAt f us fn reads writes (getD firsts k 0) (blockAt fn k .steps)
   pub ends : (k : ℕ) → k < count → getD firsts (k + 1) 0 ≡ getD firsts k 0 + length (blockAt fn k .steps)
   pub outs : (k : ℕ) → k < count → row rows (1024 + k * 8) 8 ≡ unitRow one us (getD (settledBy (flows one (program one f) fn) .sets .outs) k [])
 
@@ -109,9 +129,11 @@ abbrev pub stopsUpto : List ℕ → Function → ℕ → List Stop
 stopsUpto f fn b = stopsFrom (take b (flows one (program one f) fn)) (settledBy (flows one (program one f) fn) .sets .outs)
 
 -- The blocks below b are noted, in file order.
-pub record BlocksTaken (f found table : List ℕ) (own : Cursor) (places counts firsts : List ℕ) (count : ℕ) (words units rows : List ℕ) (b : ℕ) (meets copies addressed meets′ copies′ addressed′ : List ℕ) : Type 0 where
+pub record BlocksTaken (f found table : List ℕ) (own : Cursor) (places counts firsts : List ℕ) (count : ℕ) (words units rows : List ℕ) (b : ℕ) (reads writes meets copies addressed reads′ writes′ meets′ copies′ addressed′ : List ℕ) : Type 0 where
   pub sized : Sized meets′ copies′ addressed′
-  pub noted : (us : List ℕ) (fn : Function) (ps : List Stop) → Told f us found table words units fn own → Begun f us fn places counts firsts rows count
+  pub rowed : Rowed reads′ writes′
+  pub kept : Kept reads writes reads′ writes′
+  pub noted : (us : List ℕ) (fn : Function) (ps : List Stop) → Told f us found table words units fn own → Begun f us fn reads writes places counts firsts rows count
       → Noted us ps meets copies addressed → Noted us (ps ++ stopsUpto f fn b) meets′ copies′ addressed′
 
 -- A function of an accepted file, whose records begin at a cursor.
@@ -129,9 +151,9 @@ abbrev pub Follows : List ℕ → ℕ → Cursor → Type 0
 Follows f at after = StandsAt f after × (from f (after .at) .functions ≡ from f at .functions) × ((FunctionHere f (after .at) → ⊥) → from f (after .at) .functions ≡ [])
 
 -- The lengths of the survey's arrays, which hold anything at first.
-abbrev pub Lent : List ℕ → List ℕ → List ℕ → List ℕ → List ℕ → List ℕ → List ℕ → Type 0
-Lent gens kills targets starts places counts firsts =
-    (length gens ≡ 1024) × (length kills ≡ 1024) × (length targets ≡ 5462) × (length starts ≡ 129) × (length places ≡ 4097) × (length counts ≡ 4097) × (length firsts ≡ 129)
+abbrev pub Lent : List ℕ → List ℕ → List ℕ → List ℕ → List ℕ → List ℕ → List ℕ → List ℕ → List ℕ → Type 0
+Lent gens kills targets starts reads writes places counts firsts =
+    (length gens ≡ 1024) × (length kills ≡ 1024) × (length targets ≡ 5462) × (length starts ≡ 129) × (length reads ≡ 520) × (length writes ≡ 520) × (length places ≡ 4097) × (length counts ≡ 4097) × (length firsts ≡ 129)
 
 -- One function is noted.
 pub record FunctionTaken (f found table : List ℕ) (own : Cursor) (words units meets copies addressed rows′ meets′ copies′ addressed′ : List ℕ) (passes blocks : ℕ) (after : Cursor) : Type 0 where

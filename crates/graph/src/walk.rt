@@ -9,7 +9,9 @@ ghost use Rattle.fields.specs.Pick.{pick};
 ghost use Rattle.units.specs.Along.{Sound, Sane};
 ghost use Rattle.passes.specs.Passes.{blank, Held};
 ghost use Rattle.meetings.specs.Meeting.{met, copiesNoted, addressedNoted};
-ghost use Rattle.graph.specs.Walking.{operationAt, StepTaken, BlockTaken, Safe, OneTaken, Ordered, BlocksTaken, Owner, Lent, FunctionTaken, Granted, FunctionNext, AllTaken, Counted, Whole};
+ghost use Rattle.graph.specs.Walking.{operationAt, Found, StepTaken, BlockTaken, Safe, OneTaken, Ordered, BlocksTaken, Owner, Lent, FunctionTaken, Granted, FunctionNext, AllTaken, Counted, Whole};
+use liveness::survey::KEPT;
+use liveness::survey::row_for;
 use liveness::survey::seek;
 use liveness::survey::survey;
 use meetings::close::close;
@@ -94,13 +96,48 @@ fn note_step(
     move_live(live, reads, writes);
 }
 
-// One step: what it meets, its pairs, its addresses; then what is live before it.
+// Where the rows of step number i stand: those of a step behind the ones that are kept are asked again.
+fn rows_at(
+    file: &[u8],
+    numbers: &[u16],
+    table: &[u16],
+    own: Cursor,
+    here: Cursor,
+    i: usize,
+    reads: &mut [u64],
+    writes: &mut [u64],
+) -> usize
+    requires { ⌜ (length (now file) ≤ 16384) × (2341 ≤ length (now numbers)) × Sane (now table) × Sound own × Sound here × (here .at + 4 ≤ length (now file))
+        × (length (now reads) ≡ 520) × (length (now writes) ≡ 520) ⌝ }
+    ensures { λ r. ⌜ Found (now (file .entry)) (now (numbers .entry)) (now (table .entry)) own here i r
+        (now (reads .entry)) (now (writes .entry)) (now (reads .exit)) (now (writes .exit)) ⌝ }
+{
+    let b = row_for(i);
+    if i < KEPT {
+        return b;
+    }
+    uses_at(
+        file,
+        numbers,
+        table,
+        own,
+        here,
+        &mut reads[b..b + ROW],
+        &mut writes[b..b + ROW],
+    );
+    b
+}
+
+// Step number i: what it meets, its pairs, its addresses; then what is live before it.
 fn take_step(
     file: &[u8],
     numbers: &[u16],
     table: &[u16],
     own: Cursor,
     here: Cursor,
+    i: usize,
+    reads: &mut [u64],
+    writes: &mut [u64],
     words: &[u32],
     units: &[u64],
     live: &mut [u64],
@@ -109,21 +146,19 @@ fn take_step(
     addressed: &mut [u64],
 )
     requires { ⌜ (length (now file) ≤ 16384) × (2341 ≤ length (now numbers)) × Sane (now table) × Sound own × Sound here × (here .at + 4 ≤ length (now file))
-        × (length (now words) ≡ 512) × (length (now units) ≡ 2048) × (length (now live) ≡ 8)
+        × (length (now reads) ≡ 520) × (length (now writes) ≡ 520) × (length (now words) ≡ 512) × (length (now units) ≡ 2048) × (length (now live) ≡ 8)
         × (length (now meets) ≡ 2048) × (length (now copies) ≡ 1024) × (length (now addressed) ≡ 4) ⌝ }
-    ensures { λ _. ⌜ StepTaken (now (file .entry)) (now (numbers .entry)) (now (table .entry)) own here (now (words .entry)) (now (units .entry))
+    ensures { λ _. ⌜ StepTaken (now (file .entry)) (now (numbers .entry)) (now (table .entry)) own here i (now (reads .entry)) (now (writes .entry)) (now (words .entry)) (now (units .entry))
         (now (live .entry)) (now (meets .entry)) (now (copies .entry)) (now (addressed .entry))
-        (now (live .exit)) (now (meets .exit)) (now (copies .exit)) (now (addressed .exit)) ⌝ }
+        (now (reads .exit)) (now (writes .exit)) (now (live .exit)) (now (meets .exit)) (now (copies .exit)) (now (addressed .exit)) ⌝ }
 {
-    let mut reads = [0u64; ROW];
-    let mut writes = [0u64; ROW];
     let op = instruction_at(file, here.at);
-    uses_at(file, numbers, table, own, here, &mut reads, &mut writes);
+    let b = rows_at(file, numbers, table, own, here, i, reads, writes);
     note_step(
         words,
         units,
-        &reads,
-        &writes,
+        &reads[b..b + ROW],
+        &writes[b..b + ROW],
         op,
         live,
         meets,
@@ -138,6 +173,8 @@ fn take_block(
     numbers: &[u16],
     table: &[u16],
     own: Cursor,
+    reads: &mut [u64],
+    writes: &mut [u64],
     places: &[u16],
     counts: &[u16],
     first: usize,
@@ -149,13 +186,13 @@ fn take_block(
     copies: &mut [u64],
     addressed: &mut [u64],
 )
-    requires { ⌜ (length (now file) ≤ 16384) × (2341 ≤ length (now numbers)) × Sane (now table) × Sound own
+    requires { ⌜ (length (now file) ≤ 16384) × (2341 ≤ length (now numbers)) × Sane (now table) × Sound own × (length (now reads) ≡ 520) × (length (now writes) ≡ 520)
         × (last ≤ length (now places)) × (last ≤ length (now counts)) × (first ≤ last) × Safe (now file) (now places) (now counts) first last
         × (length (now words) ≡ 512) × (length (now units) ≡ 2048) × (length (now live) ≡ 8)
         × (length (now meets) ≡ 2048) × (length (now copies) ≡ 1024) × (length (now addressed) ≡ 4) ⌝ }
     ensures { λ _. ⌜ BlockTaken (now (file .entry)) (now (numbers .entry)) (now (table .entry)) own (now (places .entry)) (now (counts .entry)) (now (words .entry)) (now (units .entry)) last first
-        (now (live .entry)) (now (meets .entry)) (now (copies .entry)) (now (addressed .entry))
-        (now (live .exit)) (now (meets .exit)) (now (copies .exit)) (now (addressed .exit)) ⌝ }
+        (now (reads .entry)) (now (writes .entry)) (now (live .entry)) (now (meets .entry)) (now (copies .entry)) (now (addressed .entry))
+        (now (reads .exit)) (now (writes .exit)) (now (live .exit)) (now (meets .exit)) (now (copies .exit)) (now (addressed .exit)) ⌝ }
 {
     let mut i = last;
     while first < i {
@@ -169,6 +206,9 @@ fn take_block(
             table,
             own,
             here,
+            i,
+            reads,
+            writes,
             words,
             units,
             live,
@@ -185,6 +225,8 @@ fn take_one(
     numbers: &[u16],
     table: &[u16],
     own: Cursor,
+    reads: &mut [u64],
+    writes: &mut [u64],
     places: &[u16],
     counts: &[u16],
     firsts: &[u16],
@@ -196,13 +238,13 @@ fn take_one(
     copies: &mut [u64],
     addressed: &mut [u64],
 )
-    requires { ⌜ (length (now file) ≤ 16384) × (2341 ≤ length (now numbers)) × Sane (now table) × Sound own
+    requires { ⌜ (length (now file) ≤ 16384) × (2341 ≤ length (now numbers)) × Sane (now table) × Sound own × (length (now reads) ≡ 520) × (length (now writes) ≡ 520)
         × (length (now places) ≡ 4097) × (length (now counts) ≡ 4097) × (length (now firsts) ≡ 129) × (b < 128) × Ordered (now file) (now places) (now counts) (now firsts) b
         × (length (now words) ≡ 512) × (length (now units) ≡ 2048) × (length (now rows) ≡ 2048)
         × (length (now meets) ≡ 2048) × (length (now copies) ≡ 1024) × (length (now addressed) ≡ 4) ⌝ }
     ensures { λ _. ⌜ OneTaken (now (file .entry)) (now (numbers .entry)) (now (table .entry)) own (now (places .entry)) (now (counts .entry)) (now (firsts .entry)) b (now (words .entry)) (now (units .entry)) (now (rows .entry))
-        (now (meets .entry)) (now (copies .entry)) (now (addressed .entry))
-        (now (meets .exit)) (now (copies .exit)) (now (addressed .exit)) ⌝ }
+        (now (reads .entry)) (now (writes .entry)) (now (meets .entry)) (now (copies .entry)) (now (addressed .entry))
+        (now (reads .exit)) (now (writes .exit)) (now (meets .exit)) (now (copies .exit)) (now (addressed .exit)) ⌝ }
 {
     let mut live = [0u64; ROW];
     rows::copy_row(&mut live, 0, rows, OUT + b * ROW, ROW);
@@ -213,6 +255,8 @@ fn take_one(
         numbers,
         table,
         own,
+        reads,
+        writes,
         places,
         counts,
         first,
@@ -232,6 +276,8 @@ fn take_blocks(
     numbers: &[u16],
     table: &[u16],
     own: Cursor,
+    reads: &mut [u64],
+    writes: &mut [u64],
     places: &[u16],
     counts: &[u16],
     firsts: &[u16],
@@ -243,14 +289,14 @@ fn take_blocks(
     copies: &mut [u64],
     addressed: &mut [u64],
 )
-    requires { ⌜ (length (now file) ≤ 16384) × (2341 ≤ length (now numbers)) × Sane (now table) × Sound own
+    requires { ⌜ (length (now file) ≤ 16384) × (2341 ≤ length (now numbers)) × Sane (now table) × Sound own × (length (now reads) ≡ 520) × (length (now writes) ≡ 520)
         × (length (now places) ≡ 4097) × (length (now counts) ≡ 4097) × (length (now firsts) ≡ 129) × (count ≤ 128)
         × ((b : ℕ) → b < count → Ordered (now file) (now places) (now counts) (now firsts) b)
         × (length (now words) ≡ 512) × (length (now units) ≡ 2048) × (length (now rows) ≡ 2048)
         × (length (now meets) ≡ 2048) × (length (now copies) ≡ 1024) × (length (now addressed) ≡ 4) ⌝ }
     ensures { λ _. ⌜ BlocksTaken (now (file .entry)) (now (numbers .entry)) (now (table .entry)) own (now (places .entry)) (now (counts .entry)) (now (firsts .entry)) count (now (words .entry)) (now (units .entry)) (now (rows .entry)) count
-        (now (meets .entry)) (now (copies .entry)) (now (addressed .entry))
-        (now (meets .exit)) (now (copies .exit)) (now (addressed .exit)) ⌝ }
+        (now (reads .entry)) (now (writes .entry)) (now (meets .entry)) (now (copies .entry)) (now (addressed .entry))
+        (now (reads .exit)) (now (writes .exit)) (now (meets .exit)) (now (copies .exit)) (now (addressed .exit)) ⌝ }
 {
     let mut b = 0;
     while b < count {
@@ -259,6 +305,8 @@ fn take_blocks(
             numbers,
             table,
             own,
+            reads,
+            writes,
             places,
             counts,
             firsts,
@@ -298,6 +346,8 @@ fn take_function(
     kills: &mut [u64],
     targets: &mut [u16],
     starts: &mut [u16],
+    reads: &mut [u64],
+    writes: &mut [u64],
     places: &mut [u16],
     counts: &mut [u16],
     firsts: &mut [u16],
@@ -305,7 +355,7 @@ fn take_function(
     requires { ⌜ (length (now file) ≤ 16384) × (2341 ≤ length (now numbers)) × Sane (now table) × Sound own × Owner (now file) (now numbers) (now table) own
         × (length (now words) ≡ 512) × (length (now units) ≡ 2048) × (now rows ≡ blank 2048)
         × (length (now meets) ≡ 2048) × (length (now copies) ≡ 1024) × (length (now addressed) ≡ 4)
-        × Lent (now gens) (now kills) (now targets) (now starts) (now places) (now counts) (now firsts) ⌝ }
+        × Lent (now gens) (now kills) (now targets) (now starts) (now reads) (now writes) (now places) (now counts) (now firsts) ⌝ }
     ensures { λ r. ⌜ FunctionTaken (now (file .entry)) (now (numbers .entry)) (now (table .entry)) own (now (words .entry)) (now (units .entry))
         (now (meets .entry)) (now (copies .entry)) (now (addressed .entry))
         (now (rows .exit)) (now (meets .exit)) (now (copies .exit)) (now (addressed .exit)) (r .passes) (r .blocks) (r .after) ⌝ }
@@ -319,6 +369,8 @@ fn take_function(
         kills,
         targets,
         starts,
+        reads,
+        writes,
         places,
         counts,
         firsts,
@@ -329,6 +381,8 @@ fn take_function(
         numbers,
         table,
         own,
+        reads,
+        writes,
         places,
         counts,
         firsts,
@@ -340,11 +394,10 @@ fn take_function(
         copies,
         addressed,
     );
-    let blocks = s.blocks;
     let after = s.after;
     Went {
         passes,
-        blocks,
+        blocks: s.blocks,
         after,
     }
 }
@@ -382,7 +435,71 @@ fn clear_rows(rows: &mut [u64], blocks: usize)
     rows::clear(rows, OUT, blocks * ROW);
 }
 
-// Every function, in file order; the rows are those of the last. Answers the passes of all together.
+// Every function, in file order, by the survey's arrays; the rows are those of the last. Answers the passes of all together.
+fn take_each(
+    file: &[u8],
+    numbers: &[u16],
+    table: &[u16],
+    words: &[u32],
+    units: &[u64],
+    rows: &mut [u64],
+    meets: &mut [u64],
+    copies: &mut [u64],
+    addressed: &mut [u64],
+    gens: &mut [u64],
+    kills: &mut [u64],
+    targets: &mut [u16],
+    starts: &mut [u16],
+    reads: &mut [u64],
+    writes: &mut [u64],
+    places: &mut [u16],
+    counts: &mut [u16],
+    firsts: &mut [u16],
+) -> usize
+    requires { ⌜ (length (now file) ≤ 16384) × (2341 ≤ length (now numbers)) × Sane (now table) × (length (now words) ≡ 512) × (length (now units) ≡ 2048)
+        × (now rows ≡ blank 2048) × (now meets ≡ blank 2048) × (now copies ≡ blank 1024) × (now addressed ≡ blank 4)
+        × ((us : List ℕ) × Granted (now file) us (now numbers) (now table) (now words) (now units))
+        × Lent (now gens) (now kills) (now targets) (now starts) (now reads) (now writes) (now places) (now counts) (now firsts) ⌝ }
+    ensures { λ r. ⌜ ((us : List ℕ) → Granted (now (file .entry)) us (now (numbers .entry)) (now (table .entry)) (now (words .entry)) (now (units .entry))
+        → AllTaken (now (file .entry)) us r (now (rows .exit)) (now (meets .exit)) (now (copies .exit)) (now (addressed .exit))) ⌝ }
+{
+    let start = Cursor { at: 0, k: 0 };
+    let mut c = seek(file, start, false);
+    let mut passes = 0;
+    let mut blocks = 0;
+    while at_function(file, c.at) {
+        clear_rows(rows, blocks);
+        let own = behind(c);
+        let went = take_function(
+            file,
+            numbers,
+            table,
+            own,
+            words,
+            units,
+            rows,
+            meets,
+            copies,
+            addressed,
+            gens,
+            kills,
+            targets,
+            starts,
+            reads,
+            writes,
+            places,
+            counts,
+            firsts,
+        );
+        passes += went.passes;
+        blocks = went.blocks;
+        let after = went.after;
+        c = after;
+    }
+    passes
+}
+
+// Every function, with the survey's arrays, which are made once for all of them.
 fn take_functions(
     file: &[u8],
     numbers: &[u16],
@@ -404,41 +521,31 @@ fn take_functions(
     let mut kills = [0u64; 1024];
     let mut targets = [0u16; 5462];
     let mut starts = [0u16; 129];
+    let mut reads = [0u64; 520];
+    let mut writes = [0u64; 520];
     let mut places = [0u16; 4097];
     let mut counts = [0u16; 4097];
     let mut firsts = [0u16; 129];
-    let start = Cursor { at: 0, k: 0 };
-    let mut c = seek(file, start, false);
-    let mut passes = 0;
-    let mut blocks = 0;
-    while at_function(file, c.at) {
-        clear_rows(rows, blocks);
-        let own = behind(c);
-        let went = take_function(
-            file,
-            numbers,
-            table,
-            own,
-            words,
-            units,
-            rows,
-            meets,
-            copies,
-            addressed,
-            &mut gens,
-            &mut kills,
-            &mut targets,
-            &mut starts,
-            &mut places,
-            &mut counts,
-            &mut firsts,
-        );
-        passes += went.passes;
-        blocks = went.blocks;
-        let after = went.after;
-        c = after;
-    }
-    passes
+    take_each(
+        file,
+        numbers,
+        table,
+        words,
+        units,
+        rows,
+        meets,
+        copies,
+        addressed,
+        &mut gens,
+        &mut kills,
+        &mut targets,
+        &mut starts,
+        &mut reads,
+        &mut writes,
+        &mut places,
+        &mut counts,
+        &mut firsts,
+    )
 }
 
 // The graph, the copies and the live rows of the last function, of an accepted file whose units are numbered. Answers the passes of all functions.

@@ -23,11 +23,11 @@ use Rattle.passes.proofs.Squash.{getD-map}
 use Rattle.liveness.specs.Flow.{Flow, lastTargets, flowOf, flows, blockIds, noFlow}
 use Rattle.liveness.specs.Settle.{flowAt}
 use Rattle.liveness.specs.Survey.{readFirst, written, blockAt, Surveyed}
-use Rattle.liveness.specs.Walks.{Kept, BlockHere, Stopped, Sought, BlockRead, BlockDone, Tallied, Counted}
+use Rattle.liveness.specs.Walks.{Kept, KeptRows, BlockHere, Stopped, Sought, BlockRead, BlockDone, Tallied, Counted}
 use Rattle.liveness.specs.declared.survey.Walk.{Walk}
 use Rattle.units.proofs.Standing.{stands-on}
 use Rattle.liveness.proofs.Onward.{from-block}
-use Rattle.liveness.proofs.Gathering.{begin-kept, target-id}
+use Rattle.liveness.proofs.Gathering.{begin-kept, rows-kept, target-id}
 
 -- Entries that stay ----------------------------------------------------------------------------------------------------------------------------
 
@@ -80,8 +80,8 @@ module _ (starts firsts : List ℕ) (b : ℕ) (w : Walk) (t : Tallied starts fir
 
 -- One block more -------------------------------------------------------------------------------------------------------------------------------
 
-module _ (f us : List ℕ) (fn : Function) (own : ℕ) (gens kills targets starts places counts firsts ids : List ℕ) (b : ℕ) (w : Walk)
-    (g : Counted f us fn own gens kills targets starts places counts firsts ids b w) (here : BlockHere f (w .at)) where
+module _ (f us : List ℕ) (fn : Function) (own : ℕ) (gens kills targets starts reads writes places counts firsts ids : List ℕ) (b : ℕ) (w : Walk)
+    (g : Counted f us fn own gens kills targets starts reads writes places counts firsts ids b w) (here : BlockHere f (w .at)) where
   record Next : Type 0 where
     pub low : b < length (fn .blocks)
     pub is : blockAt fn b ≡ blockOf (u16At (drop (w .at) f) 1) (from f (w .at + 3))
@@ -103,12 +103,12 @@ module _ (f us : List ℕ) (fn : Function) (own : ℕ) (gens kills targets start
   pub block-steps : ((k : ℕ) → k < length (fn .blocks) → blockAt fn k .steps ≡ [] → ⊥) → from f (w .at + 3) .steps ≡ [] → ⊥
   block-steps full e = let n = next-block in full b (n .low) (ap (λ (x : Block). x .steps) (n .is) ∙ e)
 
-  module _ (born dead targets′ places′ counts′ : List ℕ) (end : Walk)
-      (read : BlockRead f us fn (w .at + 3) (w .steps) (w .targets) born dead targets′ places′ counts′ end)
+  module _ (born dead targets′ reads′ writes′ places′ counts′ : List ℕ) (end : Walk)
+      (read : BlockRead f us fn (w .at + 3) (w .steps) (w .targets) born dead targets′ reads′ writes′ places′ counts′ end)
       (t : Tallied starts firsts b w) (few : b < 128)
       (lg : length gens ≡ 1024) (lk : length kills ≡ 1024) (lt : length targets ≡ 5462) (lt′ : length targets′ ≡ 5462) (ls : length starts ≡ 129) (lf : length firsts ≡ 129) (li : length ids ≡ 128)
       (lb : length born ≡ 8) (ld : length dead ≡ 8) (more-targets : w .targets ≤ end .targets) (more-steps : w .steps ≤ end .steps) (room : end .targets ≤ 5462)
-      (kt : Kept (w .targets) targets targets′) (kp : Kept (w .steps) places places′) (kc : Kept (w .steps) counts counts′) where
+      (kt : Kept (w .targets) targets targets′) (kr : KeptRows (w .steps) reads reads′) (kw : KeptRows (w .steps) writes writes′) (kp : Kept (w .steps) places places′) (kc : Kept (w .steps) counts counts′) where
     abbrev gens′ : List ℕ
     gens′ = put gens (b * width) (row born 0 width)
 
@@ -140,7 +140,7 @@ module _ (f us : List ℕ) (fn : Function) (own : ℕ) (gens kills targets start
       abbrev ids′ : List ℕ
       ids′ = set ids b v
 
-      old-done : (j : ℕ) → j < b → BlockDone f us fn gens′ kills′ targets′ starts′ places′ counts′ firsts′ ids′ j (blockAt fn j)
+      old-done : (j : ℕ) → j < b → BlockDone f us fn gens′ kills′ targets′ starts′ reads′ writes′ places′ counts′ firsts′ ids′ j (blockAt fn j)
       unfolding targetsOf
       old-done j h =
           let d = g .done j h in
@@ -157,11 +157,12 @@ module _ (f us : List ℕ) (fn : Function) (own : ℕ) (gens kills targets start
                 ap₂ (λ (x y : ℕ). part targets′ x y) a c
                 ∙ (part-kept targets targets′ (getD starts j 0) (getD starts (j + 1) 0) (w .targets) (lt′ ∙ sym lt) most (omega arith) kt ∙ d .going);
             steps = rw p (begin-kept f places counts places′ counts′ (getD firsts j 0) (w .steps) (blockAt fn j .steps) (omega (arith, d .ends)) kp kc (d .steps));
+            rows = rw p (rows-kept f us fn reads writes reads′ writes′ (getD firsts j 0) (w .steps) (blockAt fn j .steps) (omega (arith, d .ends)) kr kw (d .rows));
             ends = q ∙ (d .ends ∙ ap (λ (x : ℕ). x + length (blockAt fn j .steps)) (sym p));
             id = getD-set-other ids b j v 0 (λ e. absurd (omega arith)) ∙ d .id;
           }
 
-      new-done : BlockDone f us fn gens′ kills′ targets′ starts′ places′ counts′ firsts′ ids′ b (blockAt fn b)
+      new-done : BlockDone f us fn gens′ kills′ targets′ starts′ reads′ writes′ places′ counts′ firsts′ ids′ b (blockAt fn b)
       unfolding targetsOf
       new-done =
           let n = next-block in
@@ -173,12 +174,13 @@ module _ (f us : List ℕ) (fn : Function) (own : ℕ) (gens kills targets start
             writing = same-row kills dead lk ld ∙ read .writing;
             going = ap₂ (λ (x y : ℕ). part targets′ x y) a (new-start starts firsts b w t few ls lf (end .targets) (end .steps)) ∙ read .going;
             steps = rw p (read .begun);
+            rows = rw p (read .rows);
             ends = new-first starts firsts b w t few ls lf (end .targets) (end .steps) ∙ (read .many ∙ ap (λ (x : ℕ). x + length (from f (w .at + 3) .steps)) (sym p));
             id = getD-set-same ids b v 0 (omega arith) ∙ (id-is ∙ target-id f (w .at));
           })
 
       pub counted-on : (at k : ℕ) → Stands f at k → Sought f true (end .at) at → Stopped f true at
-          → Counted f us fn own gens′ kills′ targets′ starts′ places′ counts′ firsts′ ids′ (b + 1) (record { at = at; k = k; steps = end .steps; targets = end .targets })
+          → Counted f us fn own gens′ kills′ targets′ starts′ reads′ writes′ places′ counts′ firsts′ ids′ (b + 1) (record { at = at; k = k; steps = end .steps; targets = end .targets })
       unfolding putRec
       counted-on at k st so sp =
           let n = next-block in
@@ -191,7 +193,7 @@ module _ (f us : List ℕ) (fn : Function) (own : ℕ) (gens kills targets start
             done = λ j h. all j h (lt-or-ge j b);
           }
         where
-          all : (j : ℕ) → j < b + 1 → (j < b) ⊎ (b ≤ j) → BlockDone f us fn gens′ kills′ targets′ starts′ places′ counts′ firsts′ ids′ j (blockAt fn j)
+          all : (j : ℕ) → j < b + 1 → (j < b) ⊎ (b ≤ j) → BlockDone f us fn gens′ kills′ targets′ starts′ reads′ writes′ places′ counts′ firsts′ ids′ j (blockAt fn j)
           all j h (inl l) = old-done j l
           all j h (inr l) = let e : j ≡ b = omega arith in rw e new-done
 
@@ -206,10 +208,10 @@ tallied-start starts firsts at k p q =
       firsts-low = λ j h. let e : j ≡ 0 = omega arith in rw e (omega arith);
     }
 
-pub counted-start : (f us : List ℕ) (fn : Function) (own : ℕ) (gens kills targets starts places counts firsts ids : List ℕ) (at k : ℕ) → fn .blocks ≡ from f own .blocks
+pub counted-start : (f us : List ℕ) (fn : Function) (own : ℕ) (gens kills targets starts reads writes places counts firsts ids : List ℕ) (at k : ℕ) → fn .blocks ≡ from f own .blocks
     → Stands f at k → Sought f true own at → Stopped f true at
-    → Counted f us fn own gens kills targets starts places counts firsts ids 0 (record { at = at; k = k; steps = 0; targets = 0 })
-counted-start f us fn own gens kills targets starts places counts firsts ids at k e st so sp =
+    → Counted f us fn own gens kills targets starts reads writes places counts firsts ids 0 (record { at = at; k = k; steps = 0; targets = 0 })
+counted-start f us fn own gens kills targets starts reads writes places counts firsts ids at k e st so sp =
     record {
       few = omega arith;
       left = e ∙ sym (so .block refl);
@@ -226,8 +228,8 @@ flow-at f fn k h = getD-map (flowOf one (program one f) fn) (fn .blocks) k (reco
 drop-none : (l : List Block) (n : ℕ) → drop n l ≡ [] → n ≤ length l → n ≡ length l
 drop-none l n e h = omega (arith, ap length e, length-drop n l)
 
-module _ (f us : List ℕ) (fn : Function) (own : ℕ) (gens kills targets starts places counts firsts ids : List ℕ) (b : ℕ) (w : Walk)
-    (g : Counted f us fn own gens kills targets starts places counts firsts ids b w) (most : length (fn .blocks) ≤ 128) (stop : (128 ≤ b) ⊎ (BlockHere f (w .at) → ⊥)) where
+module _ (f us : List ℕ) (fn : Function) (own : ℕ) (gens kills targets starts reads writes places counts firsts ids : List ℕ) (b : ℕ) (w : Walk)
+    (g : Counted f us fn own gens kills targets starts reads writes places counts firsts ids b w) (most : length (fn .blocks) ≤ 128) (stop : (128 ≤ b) ⊎ (BlockHere f (w .at) → ⊥)) where
   pub all-blocks : b ≡ length (fn .blocks)
   all-blocks = go stop
     where
@@ -247,7 +249,7 @@ module _ (f us : List ℕ) (fn : Function) (own : ℕ) (gens kills targets start
   pub surveyed-all : (targets′ : List ℕ) → Tallied starts firsts b w → w .targets ≤ 5462 → w .steps ≤ 4097 → length gens ≡ 1024 → length kills ≡ 1024
       → length targets ≡ 5462 → length targets′ ≡ 5462 → length starts ≡ 129 → length places ≡ 4097 → length ids ≡ 128
       → ((i : ℕ) → i < w .targets → getD targets′ i 0 ≡ numberIn (getD targets i 0) (take b ids))
-      → Surveyed f us fn gens kills targets′ starts places counts firsts b
+      → Surveyed f us fn gens kills targets′ starts reads writes places counts firsts b
   unfolding targetsOf flowOf
   surveyed-all targets′ t mt ms lg lk lt lt′ ls lp li numbered =
       record {
@@ -264,6 +266,7 @@ module _ (f us : List ℕ) (fn : Function) (own : ℕ) (gens kills targets start
         writing = λ k h. g .done k h .writing ∙ ap (λ (x : Flow). unitRow one us (written (x .uses))) (sym (flow k h));
         going = λ k h. goes k h ∙ ap (λ (x : Flow). x .targets) (sym (flow k h));
         steps = λ k h. g .done k h .steps;
+        rows = λ k h. g .done k h .rows;
         ends = λ k h. g .done k h .ends;
         many = λ k h. omega (arith, t .firsts-low k h);
       }

@@ -16,13 +16,13 @@ use Rattle.fields.specs.Record.{u16At}
 use Rattle.records.specs.Check.{units, check}
 use Rattle.records.specs.Program.{Step, Rest, Function, program, put as putRec, putStep}
 use Rattle.units.specs.Sets.{less}
-use Rattle.units.specs.Uses.{reads, writes}
+use Rattle.units.specs.Uses.{reads as readsOf, writes as writesOf}
 use Rattle.units.specs.Rows.{unitRow}
 use Rattle.units.specs.Along.{from, stepFrom, IsStep, Stands, StandsAt, Ready}
-use Rattle.passes.specs.Passes.{part}
+use Rattle.passes.specs.Passes.{width, part}
 use Rattle.liveness.specs.Flow.{Use, useOf, lastTargets}
-use Rattle.liveness.specs.Survey.{readFirst, written, BeginAt}
-use Rattle.liveness.specs.Walks.{Kept, Inner, Outer, Same, Asked, usesOf, InBlock, BlockRead}
+use Rattle.liveness.specs.Survey.{readFirst, written, BeginAt, RowsAt}
+use Rattle.liveness.specs.Walks.{Kept, KeptRows, Inner, Outer, Same, Asked, usesOf, InBlock, BlockRead}
 use Rattle.units.specs.declared.cursor.Cursor.{Cursor}
 use Rattle.liveness.specs.declared.survey.Walk.{Walk}
 use Rattle.liveness.proofs.SetLaws.{has-nil, has-append, has-less}
@@ -87,27 +87,31 @@ module _ (R Q born dead R′ born′ dead′ : List ℕ) (lr : length R ≡ 8) (
         r ∙ rw (d, row-whole Q 8 (omega arith)) (put-whole dead _ (sym (length-zip _ dead Q (ld ∙ sym lv)))),
       )
 
--- a step behind others: the rows that the code makes of its units
-module _ (f us found table : List ℕ) (fn : Function) (own here r : Cursor) (ss : List Step) (R Q born dead R′ born′ dead′ : List ℕ) where
+-- a step behind others: the rows that the code makes of its units, the read ones in a copy F
+module _ (f us found table : List ℕ) (fn : Function) (own here r : Cursor) (ss : List Step) (R Q born dead Z F F′ born′ dead′ : List ℕ) where
   abbrev Told : Type 0
   Told =
       (us : List ℕ) (g : Function) → Ready f us found table → StandsAt f own → g .abis ≡ from f (own .at) .abis → StandsAt f here → IsStep f (here .at)
-      → (R ≡ unitRow one us (reads one (program one f) g (stepFrom f (here .at)))) × (Q ≡ unitRow one us (writes one (program one f) (stepFrom f (here .at)))) × StandsAt f r
+      → (R ≡ unitRow one us (readsOf one (program one f) g (stepFrom f (here .at)))) × (Q ≡ unitRow one us (writesOf one (program one f) (stepFrom f (here .at)))) × StandsAt f r
 
-  pub step-joined : length born ≡ 8 → length dead ≡ 8 → Told → r .at ≡ here .at + 4 + 7 * length (from f (here .at + 4) .operands)
-      → R′ ≡ put R 0 (lessRow (row R 0 8) (row dead 0 8)) → born′ ≡ put born 0 (orRow (row born 0 8) (row R′ 0 8)) → dead′ ≡ put dead 0 (orRow (row dead 0 8) (row Q 0 8))
+  pub step-joined : length born ≡ 8 → length dead ≡ 8 → length Z ≡ 8 → Told → r .at ≡ here .at + 4 + 7 * length (from f (here .at + 4) .operands)
+      → F ≡ put Z 0 (row R 0 8) → F′ ≡ put F 0 (lessRow (row F 0 8) (row dead 0 8)) → born′ ≡ put born 0 (orRow (row born 0 8) (row F′ 0 8)) → dead′ ≡ put dead 0 (orRow (row dead 0 8) (row Q 0 8))
       → Asked f us found table fn own → StandsAt f here → IsStep f (here .at) → born ≡ unitRow one us (readFirst (usesOf f fn ss)) → dead ≡ unitRow one us (written (usesOf f fn ss))
-      → (born′ ≡ unitRow one us (readFirst (usesOf f fn (ss ++ (stepFrom f (here .at) ∷ []))))) × (dead′ ≡ unitRow one us (written (usesOf f fn (ss ++ (stepFrom f (here .at) ∷ []))))) × StandsAt f r
+      → (R ≡ unitRow one us (useOf one (program one f) fn (stepFrom f (here .at)) .reads)) × (Q ≡ unitRow one us (useOf one (program one f) fn (stepFrom f (here .at)) .writes))
+      × (born′ ≡ unitRow one us (readFirst (usesOf f fn (ss ++ (stepFrom f (here .at) ∷ []))))) × (dead′ ≡ unitRow one us (written (usesOf f fn (ss ++ (stepFrom f (here .at) ∷ []))))) × StandsAt f r
       × Same f (here .at + 4) (r .at)
   unfolding useOf
-  step-joined lb ld told far p q w a hs is eb ed =
+  step-joined lb ld lz told far o p q w a hs is eb ed =
       let t = told us fn (a .ready) (a .stands) (a .abis) hs is in
       let lr : length R ≡ 8 = ap length (t .0) ∙ row-length one us _ in
       let lq : length Q ≡ 8 = ap length (t .1) ∙ row-length one us _ in
-      let j = rows-joined R Q born dead R′ born′ dead′ lr lq lb ld p q w in
+      let e : F ≡ R = o ∙ rw (row-whole R 8 (omega arith)) (put-whole Z R (lz ∙ sym lr)) in
+      let j = rows-joined F Q born dead F′ born′ dead′ (ap length e ∙ lr) lq lb ld p q w in
       let x = useOf one (program one f) fn (stepFrom f (here .at)) in
       let more = uses-more f fn ss (stepFrom f (here .at)) in (
-        j .0 ∙ (rw (eb, ed, t .0) (born-more us (usesOf f fn ss) x) ∙ ap (λ (l : List Use). unitRow one us (readFirst l)) (sym more)),
+        t .0,
+        t .1,
+        j .0 ∙ (rw (eb, ed, e, t .0) (born-more us (usesOf f fn ss) x) ∙ ap (λ (l : List Use). unitRow one us (readFirst l)) (sym more)),
         j .1 ∙ (rw (ed, t .1) (dead-more us (usesOf f fn ss) x) ∙ ap (λ (l : List Use). unitRow one us (written l)) (sym more)),
         t .2,
         rw far (over-operands f (from f (here .at + 4) .operands) (here .at + 4) refl),
@@ -136,6 +140,25 @@ begin-kept f places counts places′ counts′ i n (y ∷ ss) l p q h =
 pub kept-set : (l : List ℕ) (i v : ℕ) → Kept i l (set l i v)
 kept-set l i v j h = getD-set-other l i j v 0 (λ e. absurd (omega arith))
 
+-- Steps and their rows -------------------------------------------------------------------------------------------------------------------------
+
+-- the rows of a step, where they are kept
+abbrev pub RowsOf : List ℕ → List ℕ → Function → List ℕ → List ℕ → ℕ → Step → Type 0
+RowsOf f us fn R Q j x =
+    j < 64 → (row R (j * width) width ≡ unitRow one us (useOf one (program one f) fn x .reads)) × (row Q (j * width) width ≡ unitRow one us (useOf one (program one f) fn x .writes))
+
+rows-more : (f us : List ℕ) (fn : Function) (R Q : List ℕ) (i j : ℕ) (ss : List Step) (x : Step) → j ≡ i + length ss → RowsAt f us fn R Q i ss → RowsOf f us fn R Q j x
+    → RowsAt f us fn R Q i (ss ++ (x ∷ []))
+rows-more f us fn R Q i j [] x e h b = let z : j ≡ i = omega arith in (rw z at b, tt)
+rows-more f us fn R Q i j (y ∷ ss) x e h b = (h .0, rows-more f us fn R Q (i + 1) j ss x (omega arith) (h .1) b)
+
+-- rows stay where those of later steps are written
+pub rows-kept : (f us : List ℕ) (fn : Function) (R Q R′ Q′ : List ℕ) (i n : ℕ) (ss : List Step) → i + length ss ≤ n → KeptRows n R R′ → KeptRows n Q Q′
+    → RowsAt f us fn R Q i ss → RowsAt f us fn R′ Q′ i ss
+rows-kept f us fn R Q R′ Q′ i n [] l p q h = tt
+rows-kept f us fn R Q R′ Q′ i n (y ∷ ss) l p q h =
+    (λ m. (p i (omega arith) m ∙ h .0 m .0, q i (omega arith) m ∙ h .0 m .1), rows-kept f us fn R Q R′ Q′ (i + 1) n ss (omega arith) p q (h .1))
+
 -- Targets --------------------------------------------------------------------------------------------------------------------------------------
 
 part-more : (l : List ℕ) (t j v : ℕ) → t ≤ j → j < length l → part (set l j v) t (j + 1) ≡ part l t j ++ (v ∷ [])
@@ -159,16 +182,17 @@ target-id f at =
 
 -- The walk inside a block ----------------------------------------------------------------------------------------------------------------------
 
-pub in-start : (f us : List ℕ) (fn : Function) (targets places counts : List ℕ) (w : Walk) → Stands f (w .at) (w .k) → (from f (w .at) .steps ≡ [] → ⊥)
-    → InBlock f us fn (w .at) (w .steps) (w .targets) (replicate 8 0) (replicate 8 0) targets places counts w
+pub in-start : (f us : List ℕ) (fn : Function) (targets reads writes places counts : List ℕ) (w : Walk) → Stands f (w .at) (w .k) → (from f (w .at) .steps ≡ [] → ⊥)
+    → InBlock f us fn (w .at) (w .steps) (w .targets) (replicate 8 0) (replicate 8 0) targets reads writes places counts w
 unfolding readFirst written
-in-start f us fn targets places counts w s n =
+in-start f us fn targets reads writes places counts w s n =
     record {
       done = [];
       splits = refl;
       stands = s;
       many = omega arith;
       begun = tt;
+      rows = tt;
       reading = no-units us;
       writing = no-units us;
       going = last-any [] _ (from f (w .at) .steps) n;
@@ -176,10 +200,10 @@ in-start f us fn targets places counts w s n =
       functions = refl;
     }
 
-module _ (f us : List ℕ) (fn : Function) (start s t : ℕ) (born dead targets places counts : List ℕ) (w : Walk) (g : InBlock f us fn start s t born dead targets places counts w) where
+module _ (f us : List ℕ) (fn : Function) (start s t : ℕ) (born dead targets reads writes places counts : List ℕ) (w : Walk) (g : InBlock f us fn start s t born dead targets reads writes places counts w) where
   module _ (ok : check one f ≡ units us) where
     pub in-target : (v : ℕ) → Inner f (w .at) 8 → t ≤ w .targets → w .targets < length targets → v ≡ u16At f (w .at + 1)
-        → InBlock f us fn start s t born dead (set targets (w .targets) v) places counts (record { at = w .at + 3; k = w .k; steps = w .steps; targets = w .targets + 1 })
+        → InBlock f us fn start s t born dead (set targets (w .targets) v) reads writes places counts (record { at = w .at + 3; k = w .k; steps = w .steps; targets = w .targets + 1 })
     unfolding putRec
     in-target v h l m e =
         let r = from-target f (w .at) h in
@@ -195,6 +219,7 @@ module _ (f us : List ℕ) (fn : Function) (start s t : ℕ) (born dead targets 
           stands = rw k at (stands-on f us ok (w .at) (w .k) (g .stands) 3 _ (r .0));
           many = g .many;
           begun = g .begun;
+          rows = g .rows;
           reading = g .reading;
           writing = g .writing;
           going = g .going ∙ ap₂ (λ (x : List ℕ) (y : List Step). lastTargets x y) same steps;
@@ -202,7 +227,7 @@ module _ (f us : List ℕ) (fn : Function) (start s t : ℕ) (born dead targets 
           functions = sym (ap (λ (x : Rest). x .functions) (r .1)) ∙ g .functions;
         }
 
-    pub in-operand : Inner f (w .at) 6 → InBlock f us fn start s t born dead targets places counts (record { at = w .at + 7; k = w .k + 1; steps = w .steps; targets = w .targets })
+    pub in-operand : Inner f (w .at) 6 → InBlock f us fn start s t born dead targets reads writes places counts (record { at = w .at + 7; k = w .k + 1; steps = w .steps; targets = w .targets })
     unfolding putRec
     in-operand h =
         let r = from-operand f (w .at) h in
@@ -214,6 +239,7 @@ module _ (f us : List ℕ) (fn : Function) (start s t : ℕ) (born dead targets 
           stands = stands-on f us ok (w .at) (w .k) (g .stands) 7 _ (r .0);
           many = g .many;
           begun = g .begun;
+          rows = g .rows;
           reading = g .reading;
           writing = g .writing;
           going = g .going ∙ ap₂ (λ (x : List ℕ) (y : List Step). lastTargets (part targets t (w .targets) ++ x) y) ts steps;
@@ -222,13 +248,13 @@ module _ (f us : List ℕ) (fn : Function) (start s t : ℕ) (born dead targets 
         }
 
   -- a step, with the place behind its operands
-  pub in-step : (born′ dead′ : List ℕ) (at k : ℕ) → IsStep f (w .at) → w .at + 4 ≤ length f → 7 * w .k ≤ w .at → from f (w .at) ≡ putStep (stepFrom f (w .at)) (from f (w .at + 4))
-      → w .steps < length places → w .steps < length counts
+  pub in-step : (born′ dead′ reads′ writes′ : List ℕ) (at k : ℕ) → IsStep f (w .at) → w .at + 4 ≤ length f → 7 * w .k ≤ w .at → from f (w .at) ≡ putStep (stepFrom f (w .at)) (from f (w .at + 4))
+      → w .steps < length places → w .steps < length counts → KeptRows (w .steps) reads reads′ → KeptRows (w .steps) writes writes′ → RowsOf f us fn reads′ writes′ (w .steps) (stepFrom f (w .at))
       → born′ ≡ unitRow one us (readFirst (usesOf f fn (g .done ++ (stepFrom f (w .at) ∷ [])))) → dead′ ≡ unitRow one us (written (usesOf f fn (g .done ++ (stepFrom f (w .at) ∷ []))))
       → Stands f at k → Same f (w .at + 4) at
-      → InBlock f us fn start s t born′ dead′ targets (set places (w .steps) (w .at)) (set counts (w .steps) (w .k)) (record { at = at; k = k; steps = w .steps + 1; targets = t })
+      → InBlock f us fn start s t born′ dead′ targets reads′ writes′ (set places (w .steps) (w .at)) (set counts (w .steps) (w .k)) (record { at = at; k = k; steps = w .steps + 1; targets = t })
   unfolding putStep lastTargets part
-  in-step born′ dead′ at k is fits low e lp lc br dr st same =
+  in-step born′ dead′ reads′ writes′ at k is fits low e lp lc kr kw own br dr st same =
       let x = stepFrom f (w .at) in
       let steps : from f (w .at) .steps ≡ x ∷ from f at .steps = ap (λ (r : Rest). r .steps) e ∙ ap (λ (l : List Step). x ∷ l) (sym (same .steps)) in
       let none : t - t ≡ 0 = omega arith in
@@ -241,6 +267,7 @@ module _ (f us : List ℕ) (fn : Function) (start s t : ℕ) (born dead targets 
             begin-more f (set places (w .steps) (w .at)) (set counts (w .steps) (w .k)) s (w .steps) (g .done) x (g .many)
             (begin-kept f places counts _ _ s (w .steps) (g .done) (omega (arith, g .many)) (kept-set places (w .steps) (w .at)) (kept-set counts (w .steps) (w .k)) (g .begun))
             (rw (getD-set-same places (w .steps) (w .at) 0 lp, getD-set-same counts (w .steps) (w .k) 0 lc) (g .stands, is, refl, low, fits));
+        rows = rows-more f us fn reads′ writes′ s (w .steps) (g .done) x (g .many) (rows-kept f us fn reads writes reads′ writes′ s (w .steps) (g .done) (omega (arith, g .many)) kr kw (g .rows)) own;
         reading = br;
         writing = dr;
         going = g .going ∙ (ap (lastTargets _) steps ∙ ap₂ (λ (n : ℕ) (l : List ℕ). lastTargets (take n (drop t targets) ++ l) (from f at .steps)) (sym none) (sym (same .targets)));
@@ -248,7 +275,7 @@ module _ (f us : List ℕ) (fn : Function) (start s t : ℕ) (born dead targets 
         functions = same .functions ∙ (sym (ap (λ (r : Rest). r .functions) e) ∙ g .functions);
       }
 
-  pub in-done : Outer f (w .at) → BlockRead f us fn start s t born dead targets places counts w
+  pub in-done : Outer f (w .at) → BlockRead f us fn start s t born dead targets reads writes places counts w
   unfolding lastTargets
   in-done o =
       let all : g .done ≡ from f start .steps = sym (g .splits ∙ (ap (λ (l : List Step). g .done ++ l) (o .0) ∙ append-nil (g .done))) in
@@ -256,6 +283,7 @@ module _ (f us : List ℕ) (fn : Function) (start s t : ℕ) (born dead targets 
         stands = g .stands;
         many = g .many ∙ ap (λ (l : List Step). s + length l) all;
         begun = rw all at (g .begun);
+        rows = rw all at (g .rows);
         reading = g .reading ∙ ap (λ (l : List Step). unitRow one us (readFirst (usesOf f fn l))) all;
         writing = g .writing ∙ ap (λ (l : List Step). unitRow one us (written (usesOf f fn l))) all;
         going = sym (g .going ∙ (ap₂ (λ (a : List ℕ) (b : List Step). lastTargets (part targets t (w .targets) ++ a) b) (o .1) (o .0) ∙ append-nil (part targets t (w .targets))));

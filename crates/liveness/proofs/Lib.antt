@@ -5,6 +5,7 @@ pub mod Rows
 pub mod UseLaws
 pub mod Onward
 pub mod Gathering
+pub mod Keeping
 pub mod Counting
 pub mod Taking
 pub mod Finding

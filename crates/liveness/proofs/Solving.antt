@@ -125,7 +125,7 @@ map-twice : (fs : List Flow) (us : List ℕ) → squash (views (numbered us fs))
 map-twice [] us = refl
 map-twice (x ∷ fs) us = ap (λ (l : List L.Block). oneStep (view (numberFlow us x)) ∷ l) (map-twice fs us)
 
-module _ (f us : List ℕ) (fn : Function) (gens kills targets starts places counts firsts : List ℕ) (b : ℕ) (s : Surveyed f us fn gens kills targets starts places counts firsts b)
+module _ (f us : List ℕ) (fn : Function) (gens kills targets starts reads writes places counts firsts : List ℕ) (b : ℕ) (s : Surveyed f us fn gens kills targets starts reads writes places counts firsts b)
     (once : Distinct us) (fits : length us ≤ 512) (all : AllListed us (flows one (program one f) fn)) where
   abbrev fs : List Flow
   fs = flows one (program one f) fn
@@ -207,13 +207,13 @@ module _ (f us : List ℕ) (fn : Function) (gens kills targets starts places cou
         ∙ ap₂ (λ (x y : List ℕ). x ++ y) (rows-are us live (sets .ins) 0 0 128 (λ j l. let z : 0 + j ≡ j = omega arith in let q : 0 + (0 + j) * 8 ≡ j * 8 = omega arith in rw (q, z) (in-rows j l))) (rows-are us live (sets .outs) 1024 0 128 (λ j l. let z : 0 + j ≡ j = omega arith in rw z (out-rows j l))))
 
 -- The whole, for a function of an accepted file.
-pub live-of-file : (f us found table : List ℕ) (fn : Function) (gens kills targets starts places counts firsts : List ℕ) (b passes : ℕ) (live : List ℕ) → Ready f us found table
-    → List·Memᴰ fn (program one f .functions) → Surveyed f us fn gens kills targets starts places counts firsts b → P.Solved gens kills targets starts b passes live
+pub live-of-file : (f us found table : List ℕ) (fn : Function) (gens kills targets starts reads writes places counts firsts : List ℕ) (b passes : ℕ) (live : List ℕ) → Ready f us found table
+    → List·Memᴰ fn (program one f .functions) → Surveyed f us fn gens kills targets starts reads writes places counts firsts b → P.Solved gens kills targets starts b passes live
     → (passes ≡ liveness one (program one f) fn .passes) × (live ≡ liveWords one us (liveness one (program one f) fn .sets))
-live-of-file f us found table fn gens kills targets starts places counts firsts b passes live ready m s v =
+live-of-file f us found table fn gens kills targets starts reads writes places counts firsts b passes live ready m s v =
     let ok = ready .accepted in
     let once = units-once f us ok in
     let all = accepted-listed one f us ok fn m in (
-      passes-are-those f us fn gens kills targets starts places counts firsts b s once (units-most f us ok) all passes live v,
-      words-are f us fn gens kills targets starts places counts firsts b s once (units-most f us ok) all passes live v,
+      passes-are-those f us fn gens kills targets starts reads writes places counts firsts b s once (units-most f us ok) all passes live v,
+      words-are f us fn gens kills targets starts reads writes places counts firsts b s once (units-most f us ok) all passes live v,
     )

@@ -44,9 +44,9 @@ module _ (f us found table : List ℕ) (fn : Function) (own : Cursor) (ready : R
             (mem-at (fn .blocks) k (record { id = 0; steps = [] }) l) .closes);
       }
 
-module _ (f found table : List ℕ) (own : Cursor) (gens kills targets starts places counts firsts ids : List ℕ) where
+module _ (f found table : List ℕ) (own : Cursor) (gens kills targets starts reads writes places counts firsts ids : List ℕ) where
   pub growing-start : (c : Cursor) → length starts ≡ 129 → length firsts ≡ 129 → Came f true (own .at) (own .k) (c .at) (c .k) → Stopped f true (c .at)
-      → Growing f found table own gens kills targets (set starts 0 0) places counts (set firsts 0 0) ids 0 (record { at = c .at; k = c .k; steps = 0; targets = 0 })
+      → Growing f found table own gens kills targets (set starts 0 0) reads writes places counts (set firsts 0 0) ids 0 (record { at = c .at; k = c .k; steps = 0; targets = 0 })
   growing-start c ls lf came stop =
       record {
         within = (came .sound, omega arith, omega arith);
@@ -54,14 +54,14 @@ module _ (f found table : List ℕ) (own : Cursor) (gens kills targets starts pl
         steps-low = omega arith;
         few = omega arith;
         tallied = tallied-start (set starts 0 0) (set firsts 0 0) (c .at) (c .k) (getD-set-same starts 0 0 0 (omega arith)) (getD-set-same firsts 0 0 0 (omega arith));
-        counted = λ us fn a e. counted-start f us fn (own .at) gens kills targets (set starts 0 0) places counts (set firsts 0 0) ids (c .at) (c .k) e (came .stands us (a .ready .accepted) (a .stands)) (came .sought) stop;
+        counted = λ us fn a e. counted-start f us fn (own .at) gens kills targets (set starts 0 0) reads writes places counts (set firsts 0 0) ids (c .at) (c .k) e (came .stands us (a .ready .accepted) (a .stands)) (came .sought) stop;
       }
 
-  module _ (b : ℕ) (w : Walk) (g : Growing f found table own gens kills targets starts places counts firsts ids b w) where
-    pub growing-on : (gens′ kills′ targets′ starts′ places′ counts′ firsts′ ids′ : List ℕ) (r : Walk) → b < 128 → length f ≤ 16384
-        → Grown f found table own gens kills targets starts places counts firsts ids b w gens′ kills′ targets′ starts′ places′ counts′ firsts′ ids′ r
-        → Growing f found table own gens′ kills′ targets′ starts′ places′ counts′ firsts′ ids′ (b + 1) r
-    growing-on gens′ kills′ targets′ starts′ places′ counts′ firsts′ ids′ r few lf n =
+  module _ (b : ℕ) (w : Walk) (g : Growing f found table own gens kills targets starts reads writes places counts firsts ids b w) where
+    pub growing-on : (gens′ kills′ targets′ starts′ reads′ writes′ places′ counts′ firsts′ ids′ : List ℕ) (r : Walk) → b < 128 → length f ≤ 16384
+        → Grown f found table own gens kills targets starts reads writes places counts firsts ids b w gens′ kills′ targets′ starts′ reads′ writes′ places′ counts′ firsts′ ids′ r
+        → Growing f found table own gens′ kills′ targets′ starts′ reads′ writes′ places′ counts′ firsts′ ids′ (b + 1) r
+    growing-on gens′ kills′ targets′ starts′ reads′ writes′ places′ counts′ firsts′ ids′ r few lf n =
         record {
           within = n .within;
           targets-low = omega (arith, n .within .2, n .fits);
@@ -81,12 +81,12 @@ module _ (f found table : List ℕ) (own : Cursor) (gens kills targets starts pl
         → Came f false (w .at) (w .k) (after .at) (after .k) → Stopped f false (after .at)
         → (us : List ℕ) (fn : Function) → Ready f us found table → StandsAt f own → List·Memᴰ fn (program one f .functions)
         → fn .abis ≡ from f (own .at) .abis → fn .blocks ≡ from f (own .at) .blocks
-        → Surveyed f us fn gens kills targets′ starts places counts firsts b × StandsAt f after × (from f (after .at) .functions ≡ from f (own .at) .functions)
+        → Surveyed f us fn gens kills targets′ starts reads writes places counts firsts b × StandsAt f after × (from f (after .at) .functions ≡ from f (own .at) .functions)
         × ((FunctionHere f (after .at) → ⊥) → from f (after .at) .functions ≡ [])
     growing-done targets′ after there left next lg lk lt lt′ ls lp li numbered came stop us fn ready s m abis blocks =
         let a = asked-of f us found table fn own ready m s abis in
         let c = g .counted us fn a blocks in (
-          surveyed-all f us fn (own .at) gens kills targets starts places counts firsts ids b w c (blocks-most f us found table fn own ready m) (next .no left) targets′ (g .tallied) (omega (arith, g .targets-low)) (omega (arith, g .steps-low)) lg lk lt lt′ ls lp li numbered,
+          surveyed-all f us fn (own .at) gens kills targets starts reads writes places counts firsts ids b w c (blocks-most f us found table fn own ready m) (next .no left) targets′ (g .tallied) (omega (arith, g .targets-low)) (omega (arith, g .steps-low)) lg lk lt lt′ ls lp li numbered,
           came .stands us (ready .accepted) (c .stands),
           came .sought .function ∙ c .functions,
           stop .function refl,

@@ -15,13 +15,17 @@ use Rattle.units.specs.Rows.{unitRow}
 use Rattle.units.specs.Along.{from, Stands, StandsAt, Ready, broughtBy}
 use Rattle.passes.specs.Passes.{width, part, targetsOf}
 use Rattle.liveness.specs.Flow.{Use, useOf, lastTargets}
-use Rattle.liveness.specs.Survey.{readFirst, written, blockAt, BeginAt}
+use Rattle.liveness.specs.Survey.{readFirst, written, blockAt, BeginAt, RowsAt}
 use Rattle.units.specs.declared.cursor.Cursor.{Cursor}
 use Rattle.liveness.specs.declared.survey.Walk.{Walk}
 
 -- The first n entries stay.
 abbrev pub Kept : ℕ → List ℕ → List ℕ → Type 0
 Kept n old new = (i : ℕ) → i < n → getD new i 0 ≡ getD old i 0
+
+-- The rows of the first n steps stay, of those steps whose rows are kept.
+abbrev pub KeptRows : ℕ → List ℕ → List ℕ → Type 0
+KeptRows n old new = (j : ℕ) → j < n → j < 64 → row new (j * width) width ≡ row old (j * width) width
 
 -- A whole block record, and a whole function record, at a place.
 abbrev pub BlockHere : List ℕ → ℕ → Type 0
@@ -104,14 +108,15 @@ pub record Asked (f us found table : List ℕ) (fn : Function) (own : Cursor) : 
 abbrev pub usesOf : List ℕ → Function → List Step → List Use
 usesOf f fn ss = map (useOf one (program one f) fn) ss
 
--- A block whose records begin at `start` is read up to the walk's place: `done` are the steps so far, their places stand from entry s on, and the
--- targets of the last of them from entry t on.
-pub record InBlock (f us : List ℕ) (fn : Function) (start s t : ℕ) (born dead targets places counts : List ℕ) (w : Walk) : Type 0 where
+-- A block whose records begin at `start` is read up to the walk's place: `done` are the steps so far, their places and rows stand from entry s on, and
+-- the targets of the last of them from entry t on.
+pub record InBlock (f us : List ℕ) (fn : Function) (start s t : ℕ) (born dead targets reads writes places counts : List ℕ) (w : Walk) : Type 0 where
   pub done : List Step
   pub splits : from f start .steps ≡ done ++ from f (w .at) .steps
   pub stands : Stands f (w .at) (w .k)
   pub many : w .steps ≡ s + length done
   pub begun : BeginAt f places counts s done
+  pub rows : RowsAt f us fn reads writes s done
   pub reading : born ≡ unitRow one us (readFirst (usesOf f fn done))
   pub writing : dead ≡ unitRow one us (written (usesOf f fn done))
   pub going : lastTargets [] (from f start .steps) ≡ lastTargets (part targets t (w .targets) ++ from f (w .at) .targets) (from f (w .at) .steps)
@@ -119,10 +124,11 @@ pub record InBlock (f us : List ℕ) (fn : Function) (start s t : ℕ) (born dea
   pub functions : from f (w .at) .functions ≡ from f start .functions
 
 -- The whole block is read.
-pub record BlockRead (f us : List ℕ) (fn : Function) (start s t : ℕ) (born dead targets places counts : List ℕ) (w : Walk) : Type 0 where
+pub record BlockRead (f us : List ℕ) (fn : Function) (start s t : ℕ) (born dead targets reads writes places counts : List ℕ) (w : Walk) : Type 0 where
   pub stands : Stands f (w .at) (w .k)
   pub many : w .steps ≡ s + length (from f start .steps)
   pub begun : BeginAt f places counts s (from f start .steps)
+  pub rows : RowsAt f us fn reads writes s (from f start .steps)
   pub reading : born ≡ unitRow one us (readFirst (usesOf f fn (from f start .steps)))
   pub writing : dead ≡ unitRow one us (written (usesOf f fn (from f start .steps)))
   pub going : part targets t (w .targets) ≡ lastTargets [] (from f start .steps)
@@ -130,37 +136,42 @@ pub record BlockRead (f us : List ℕ) (fn : Function) (start s t : ℕ) (born d
   pub functions : from f (w .at) .functions ≡ from f start .functions
 
 -- What one record of a block adds: the buffers and the walk before it, and after it.
-pub record Taken (f found table : List ℕ) (own : Cursor) (first : ℕ) (born dead targets places counts : List ℕ) (w : Walk) (born′ dead′ targets′ places′ counts′ : List ℕ) (r : Walk) : Type 0 where
+pub record Taken (f found table : List ℕ) (own : Cursor) (first : ℕ) (born dead targets reads writes places counts : List ℕ) (w : Walk) (born′ dead′ targets′ reads′ writes′ places′ counts′ : List ℕ) (r : Walk) : Type 0 where
   pub within : Within r
   pub on : w .at < r .at
   pub fits : r .at ≤ length f
   pub more-steps : w .steps ≤ r .steps
   pub more-targets : first ≤ r .targets
   pub kept-targets : Kept first targets targets′
+  pub kept-reads : KeptRows (w .steps) reads reads′
+  pub kept-writes : KeptRows (w .steps) writes writes′
   pub kept-places : Kept (w .steps) places places′
   pub kept-counts : Kept (w .steps) counts counts′
-  pub reads : (us : List ℕ) (fn : Function) (start s : ℕ) → Asked f us found table fn own → InBlock f us fn start s first born dead targets places counts w
-      → InBlock f us fn start s first born′ dead′ targets′ places′ counts′ r
+  pub carries : (us : List ℕ) (fn : Function) (start s : ℕ) → Asked f us found table fn own → InBlock f us fn start s first born dead targets reads writes places counts w
+      → InBlock f us fn start s first born′ dead′ targets′ reads′ writes′ places′ counts′ r
 
 -- What the records of a block add, from its first on.
-pub record Walked (f found table : List ℕ) (own : Cursor) (born dead targets places counts : List ℕ) (w : Walk) (born′ dead′ targets′ places′ counts′ : List ℕ) (r : Walk) : Type 0 where
+pub record Walked (f found table : List ℕ) (own : Cursor) (born dead targets reads writes places counts : List ℕ) (w : Walk) (born′ dead′ targets′ reads′ writes′ places′ counts′ : List ℕ) (r : Walk) : Type 0 where
   pub within : Within r
   pub on : w .at ≤ r .at
   pub fits : r .at ≤ length f
   pub more-steps : w .steps ≤ r .steps
   pub more-targets : w .targets ≤ r .targets
   pub kept-targets : Kept (w .targets) targets targets′
+  pub kept-reads : KeptRows (w .steps) reads reads′
+  pub kept-writes : KeptRows (w .steps) writes writes′
   pub kept-places : Kept (w .steps) places places′
   pub kept-counts : Kept (w .steps) counts counts′
-  pub reads : (us : List ℕ) (fn : Function) → Asked f us found table fn own → InBlock f us fn (w .at) (w .steps) (w .targets) born dead targets places counts w
-      → InBlock f us fn (w .at) (w .steps) (w .targets) born′ dead′ targets′ places′ counts′ r
+  pub carries : (us : List ℕ) (fn : Function) → Asked f us found table fn own → InBlock f us fn (w .at) (w .steps) (w .targets) born dead targets reads writes places counts w
+      → InBlock f us fn (w .at) (w .steps) (w .targets) born′ dead′ targets′ reads′ writes′ places′ counts′ r
 
 -- What the buffers hold of block k; its targets are ids still.
-pub record BlockDone (f us : List ℕ) (fn : Function) (gens kills targets starts places counts firsts ids : List ℕ) (k : ℕ) (b : Block) : Type 0 where
+pub record BlockDone (f us : List ℕ) (fn : Function) (gens kills targets starts reads writes places counts firsts ids : List ℕ) (k : ℕ) (b : Block) : Type 0 where
   pub reading : row gens (k * width) width ≡ unitRow one us (readFirst (usesOf f fn (b .steps)))
   pub writing : row kills (k * width) width ≡ unitRow one us (written (usesOf f fn (b .steps)))
   pub going : targetsOf targets starts k ≡ lastTargets [] (b .steps)
   pub steps : BeginAt f places counts (getD firsts k 0) (b .steps)
+  pub rows : RowsAt f us fn reads writes (getD firsts k 0) (b .steps)
   pub ends : getD firsts (k + 1) 0 ≡ getD firsts k 0 + length (b .steps)
   pub id : getD ids k 0 ≡ b .id
 
@@ -172,33 +183,33 @@ pub record Tallied (starts firsts : List ℕ) (b : ℕ) (w : Walk) : Type 0 wher
   pub firsts-low : (j : ℕ) → j ≤ b → getD firsts j 0 ≤ w .steps
 
 -- b blocks are read, and the walk stands before the others.
-pub record Counted (f us : List ℕ) (fn : Function) (own : ℕ) (gens kills targets starts places counts firsts ids : List ℕ) (b : ℕ) (w : Walk) : Type 0 where
+pub record Counted (f us : List ℕ) (fn : Function) (own : ℕ) (gens kills targets starts reads writes places counts firsts ids : List ℕ) (b : ℕ) (w : Walk) : Type 0 where
   pub few : b ≤ length (fn .blocks)
   pub left : drop b (fn .blocks) ≡ from f (w .at) .blocks
   pub stands : Stands f (w .at) (w .k)
   pub functions : from f (w .at) .functions ≡ from f own .functions
   pub stop : (BlockHere f (w .at) → ⊥) → from f (w .at) .blocks ≡ []
-  pub done : (j : ℕ) → j < b → BlockDone f us fn gens kills targets starts places counts firsts ids j (blockAt fn j)
+  pub done : (j : ℕ) → j < b → BlockDone f us fn gens kills targets starts reads writes places counts firsts ids j (blockAt fn j)
 
 -- What one block adds: the buffers and the walk before it, and after it.
-pub record Grown (f found table : List ℕ) (own : Cursor) (gens kills targets starts places counts firsts ids : List ℕ) (b : ℕ) (w : Walk)
-    (gens′ kills′ targets′ starts′ places′ counts′ firsts′ ids′ : List ℕ) (r : Walk) : Type 0 where
+pub record Grown (f found table : List ℕ) (own : Cursor) (gens kills targets starts reads writes places counts firsts ids : List ℕ) (b : ℕ) (w : Walk)
+    (gens′ kills′ targets′ starts′ reads′ writes′ places′ counts′ firsts′ ids′ : List ℕ) (r : Walk) : Type 0 where
   pub within : Within r
   pub on : w .at < r .at
   pub fits : r .at ≤ length f
   pub tallied : Tallied starts′ firsts′ (b + 1) r
-  pub counted : (us : List ℕ) (fn : Function) → Asked f us found table fn own → Counted f us fn (own .at) gens kills targets starts places counts firsts ids b w
-      → Counted f us fn (own .at) gens′ kills′ targets′ starts′ places′ counts′ firsts′ ids′ (b + 1) r
+  pub counted : (us : List ℕ) (fn : Function) → Asked f us found table fn own → Counted f us fn (own .at) gens kills targets starts reads writes places counts firsts ids b w
+      → Counted f us fn (own .at) gens′ kills′ targets′ starts′ reads′ writes′ places′ counts′ firsts′ ids′ (b + 1) r
 
 -- The blocks so far, of a function whose records begin at a cursor.
-pub record Growing (f found table : List ℕ) (own : Cursor) (gens kills targets starts places counts firsts ids : List ℕ) (b : ℕ) (w : Walk) : Type 0 where
+pub record Growing (f found table : List ℕ) (own : Cursor) (gens kills targets starts reads writes places counts firsts ids : List ℕ) (b : ℕ) (w : Walk) : Type 0 where
   pub within : Within w
   pub targets-low : w .targets ≤ 5461
   pub steps-low : w .steps ≤ 4096
   pub few : b ≤ 128
   pub tallied : Tallied starts firsts b w
   pub counted : (us : List ℕ) (fn : Function) → Asked f us found table fn own → fn .blocks ≡ from f (own .at) .blocks
-      → Counted f us fn (own .at) gens kills targets starts places counts firsts ids b w
+      → Counted f us fn (own .at) gens kills targets starts reads writes places counts firsts ids b w
 
 -- The cursor behind the record of a function, by the table of functions.
 pub record Owned (table : List ℕ) (number : ℕ) (r : Cursor) : Type 0 where

@@ -57,6 +57,8 @@ fn passes_of(file: &[u8], numbers: &[u16], table: &[u16], own: Cursor, live: &mu
     let mut kills = [0u64; 1024];
     let mut targets = [0u16; 5462];
     let mut starts = [0u16; 129];
+    let mut reads = [0u64; 520];
+    let mut writes = [0u64; 520];
     let mut places = [0u16; 4097];
     let mut counts = [0u16; 4097];
     let mut firsts = [0u16; 129];
@@ -69,6 +71,8 @@ fn passes_of(file: &[u8], numbers: &[u16], table: &[u16], own: Cursor, live: &mu
         &mut kills,
         &mut targets,
         &mut starts,
+        &mut reads,
+        &mut writes,
         &mut places,
         &mut counts,
         &mut firsts,

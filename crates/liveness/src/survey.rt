@@ -11,7 +11,8 @@ ghost use Rattle.records.specs.Program.{Step, Function, program};
 ghost use Rattle.units.specs.Rows.{unitRow};
 ghost use Rattle.units.specs.Along.{from, stepFrom, IsStep, StandsAt, Sound, Sane, Ready};
 ghost use Rattle.passes.specs.Passes.{Given};
-ghost use Rattle.liveness.specs.Survey.{readFirst, written, Surveyed};
+ghost use Rattle.liveness.specs.Flow.{useOf};
+ghost use Rattle.liveness.specs.Survey.{rowFor, readFirst, written, Surveyed};
 ghost use Rattle.liveness.specs.Walks.{BlockHere, FunctionHere, Stopped, Stops, Paced, Came, BlockNext, Inner, Outer, Kind, Same, Within, Asked, usesOf, Taken, Walked, Tallied, Grown};
 use fields::bytes::length_of;
 use fields::bytes::u16_at;
@@ -23,6 +24,9 @@ use units::uses::uses_at;
 const BLOCKS: usize = 128;
 
 const ROW: usize = 8;
+
+// The rows of so many steps of a function are kept; those of every later step are written behind them, one over the other.
+pub const KEPT: usize = 64;
 
 // Where the walk stands: its place, and how many unit numbers, steps and targets come before it.
 pub struct Walk {
@@ -111,34 +115,45 @@ fn inner(file: &[u8], at: usize) -> u8
     kind
 }
 
-// A step's rows join those of the steps before it: what it reads and they do not write, and what it writes.
+// A step's two rows, and with them what the steps so far read first and what they write: what it reads and they do not write, and what it writes.
 fn step_rows(
     file: &[u8],
     numbers: &[u16],
     table: &[u16],
     own: Cursor,
     here: Cursor,
+    reads: &mut [u64],
+    writes: &mut [u64],
     born: &mut [u64],
     dead: &mut [u64],
 ) -> Cursor
     requires { ⌜ (length (now file) ≤ 16384) × (2341 ≤ length (now numbers)) × Sane (now table) × Sound own × Sound here × (here .at + 4 ≤ length (now file))
-        × (length (now born) ≡ 8) × (length (now dead) ≡ 8) ⌝ }
+        × (length (now reads) ≡ 8) × (length (now writes) ≡ 8) × (length (now born) ≡ 8) × (length (now dead) ≡ 8) ⌝ }
     ensures { λ r. ⌜ Sound r × (here .at + 4 ≤ r .at) × (r .at ≤ length (now (file .entry)))
         × ((us : List ℕ) (fn : Function) (ss : List Step) → Asked (now (file .entry)) us (now (numbers .entry)) (now (table .entry)) fn own
         → StandsAt (now (file .entry)) here → IsStep (now (file .entry)) (here .at)
         → now (born .entry) ≡ unitRow one us (readFirst (usesOf (now (file .entry)) fn ss))
         → now (dead .entry) ≡ unitRow one us (written (usesOf (now (file .entry)) fn ss))
-        → (now (born .exit) ≡ unitRow one us (readFirst (usesOf (now (file .entry)) fn (ss ++ (stepFrom (now (file .entry)) (here .at) ∷ [])))))
+        → (now (reads .exit) ≡ unitRow one us (useOf one (program one (now (file .entry))) fn (stepFrom (now (file .entry)) (here .at)) .reads))
+        × (now (writes .exit) ≡ unitRow one us (useOf one (program one (now (file .entry))) fn (stepFrom (now (file .entry)) (here .at)) .writes))
+        × (now (born .exit) ≡ unitRow one us (readFirst (usesOf (now (file .entry)) fn (ss ++ (stepFrom (now (file .entry)) (here .at) ∷ [])))))
         × (now (dead .exit) ≡ unitRow one us (written (usesOf (now (file .entry)) fn (ss ++ (stepFrom (now (file .entry)) (here .at) ∷ [])))))
         × StandsAt (now (file .entry)) r × Same (now (file .entry)) (here .at + 4) (r .at)) ⌝ }
 {
-    let mut reads = [0u64; ROW];
-    let mut writes = [0u64; ROW];
-    let next = uses_at(file, numbers, table, own, here, &mut reads, &mut writes);
-    rows::less_from(&mut reads, 0, dead, 0, ROW);
-    rows::union_from(born, 0, &reads, 0, ROW);
-    rows::union_from(dead, 0, &writes, 0, ROW);
+    let next = uses_at(file, numbers, table, own, here, reads, writes);
+    let mut first = [0u64; ROW];
+    rows::copy_row(&mut first, 0, reads, 0, ROW);
+    rows::less_from(&mut first, 0, dead, 0, ROW);
+    rows::union_from(born, 0, &first, 0, ROW);
+    rows::union_from(dead, 0, writes, 0, ROW);
     next
+}
+
+// Where the rows of step number s stand.
+pub fn row_for(s: usize) -> usize
+    ensures { λ r. ⌜ (r ≡ rowFor s) × (r + 8 ≤ 520) ⌝ }
+{
+    if s < KEPT { s * ROW } else { KEPT * ROW }
 }
 
 // One record of a block. The targets noted from `first` on are those of the last step.
@@ -153,14 +168,16 @@ fn take_record(
     born: &mut [u64],
     dead: &mut [u64],
     targets: &mut [u16],
+    reads: &mut [u64],
+    writes: &mut [u64],
     places: &mut [u16],
     counts: &mut [u16],
 ) -> Walk
     requires { ⌜ (length (now file) ≤ 16384) × (2341 ≤ length (now numbers)) × Sane (now table) × Sound own × Within w × Inner (now file) (w .at) kind × (first ≤ w .targets)
-        × (length (now born) ≡ 8) × (length (now dead) ≡ 8) × (length (now targets) ≡ 5462) × (length (now places) ≡ 4097) × (length (now counts) ≡ 4097) ⌝ }
+        × (length (now born) ≡ 8) × (length (now dead) ≡ 8) × (length (now targets) ≡ 5462) × (length (now reads) ≡ 520) × (length (now writes) ≡ 520) × (length (now places) ≡ 4097) × (length (now counts) ≡ 4097) ⌝ }
     ensures { λ r. ⌜ Taken (now (file .entry)) (now (numbers .entry)) (now (table .entry)) own first
-        (now (born .entry)) (now (dead .entry)) (now (targets .entry)) (now (places .entry)) (now (counts .entry)) w
-        (now (born .exit)) (now (dead .exit)) (now (targets .exit)) (now (places .exit)) (now (counts .exit)) r ⌝ }
+        (now (born .entry)) (now (dead .entry)) (now (targets .entry)) (now (reads .entry)) (now (writes .entry)) (now (places .entry)) (now (counts .entry)) w
+        (now (born .exit)) (now (dead .exit)) (now (targets .exit)) (now (reads .exit)) (now (writes .exit)) (now (places .exit)) (now (counts .exit)) r ⌝ }
 {
     if kind == 8 {
         let t = w.targets;
@@ -184,7 +201,18 @@ fn take_record(
     places[s] = w.at as u16;
     counts[s] = w.k as u16;
     let here = Cursor { at: w.at, k: w.k };
-    let next = step_rows(file, numbers, table, own, here, born, dead);
+    let b = row_for(s);
+    let next = step_rows(
+        file,
+        numbers,
+        table,
+        own,
+        here,
+        &mut reads[b..b + ROW],
+        &mut writes[b..b + ROW],
+        born,
+        dead,
+    );
     Walk {
         at: next.at,
         k: next.k,
@@ -203,14 +231,16 @@ fn block_records(
     born: &mut [u64],
     dead: &mut [u64],
     targets: &mut [u16],
+    reads: &mut [u64],
+    writes: &mut [u64],
     places: &mut [u16],
     counts: &mut [u16],
 ) -> Walk
     requires { ⌜ (length (now file) ≤ 16384) × (2341 ≤ length (now numbers)) × Sane (now table) × Sound own × Within begin × (begin .at ≤ length (now file))
-        × (length (now born) ≡ 8) × (length (now dead) ≡ 8) × (length (now targets) ≡ 5462) × (length (now places) ≡ 4097) × (length (now counts) ≡ 4097) ⌝ }
+        × (length (now born) ≡ 8) × (length (now dead) ≡ 8) × (length (now targets) ≡ 5462) × (length (now reads) ≡ 520) × (length (now writes) ≡ 520) × (length (now places) ≡ 4097) × (length (now counts) ≡ 4097) ⌝ }
     ensures { λ r. ⌜ Walked (now (file .entry)) (now (numbers .entry)) (now (table .entry)) own
-        (now (born .entry)) (now (dead .entry)) (now (targets .entry)) (now (places .entry)) (now (counts .entry)) begin
-        (now (born .exit)) (now (dead .exit)) (now (targets .exit)) (now (places .exit)) (now (counts .exit)) r × Outer (now (file .entry)) (r .at) ⌝ }
+        (now (born .entry)) (now (dead .entry)) (now (targets .entry)) (now (reads .entry)) (now (writes .entry)) (now (places .entry)) (now (counts .entry)) begin
+        (now (born .exit)) (now (dead .exit)) (now (targets .exit)) (now (reads .exit)) (now (writes .exit)) (now (places .exit)) (now (counts .exit)) r × Outer (now (file .entry)) (r .at) ⌝ }
 {
     let mut w = begin;
     let mut kind = inner(file, w.at);
@@ -226,6 +256,8 @@ fn block_records(
             born,
             dead,
             targets,
+            reads,
+            writes,
             places,
             counts,
         );
@@ -246,6 +278,8 @@ fn take_block(
     kills: &mut [u64],
     targets: &mut [u16],
     starts: &mut [u16],
+    reads: &mut [u64],
+    writes: &mut [u64],
     places: &mut [u16],
     counts: &mut [u16],
     firsts: &mut [u16],
@@ -253,10 +287,10 @@ fn take_block(
 ) -> Walk
     requires { ⌜ (length (now file) ≤ 16384) × (2341 ≤ length (now numbers)) × Sane (now table) × Sound own × Within w × BlockHere (now file) (w .at) × (b < 128)
         × (length (now gens) ≡ 1024) × (length (now kills) ≡ 1024) × (length (now targets) ≡ 5462) × (length (now starts) ≡ 129)
-        × (length (now places) ≡ 4097) × (length (now counts) ≡ 4097) × (length (now firsts) ≡ 129) × (length (now ids) ≡ 128) × Tallied (now starts) (now firsts) b w ⌝ }
+        × (length (now reads) ≡ 520) × (length (now writes) ≡ 520) × (length (now places) ≡ 4097) × (length (now counts) ≡ 4097) × (length (now firsts) ≡ 129) × (length (now ids) ≡ 128) × Tallied (now starts) (now firsts) b w ⌝ }
     ensures { λ r. ⌜ Grown (now (file .entry)) (now (numbers .entry)) (now (table .entry)) own
-        (now (gens .entry)) (now (kills .entry)) (now (targets .entry)) (now (starts .entry)) (now (places .entry)) (now (counts .entry)) (now (firsts .entry)) (now (ids .entry)) b w
-        (now (gens .exit)) (now (kills .exit)) (now (targets .exit)) (now (starts .exit)) (now (places .exit)) (now (counts .exit)) (now (firsts .exit)) (now (ids .exit)) r ⌝ }
+        (now (gens .entry)) (now (kills .entry)) (now (targets .entry)) (now (starts .entry)) (now (reads .entry)) (now (writes .entry)) (now (places .entry)) (now (counts .entry)) (now (firsts .entry)) (now (ids .entry)) b w
+        (now (gens .exit)) (now (kills .exit)) (now (targets .exit)) (now (starts .exit)) (now (reads .exit)) (now (writes .exit)) (now (places .exit)) (now (counts .exit)) (now (firsts .exit)) (now (ids .exit)) r ⌝ }
 {
     ids[b] = u16_at(file, w.at + 1);
     let mut born = [0u64; ROW];
@@ -276,6 +310,8 @@ fn take_block(
         &mut born,
         &mut dead,
         targets,
+        reads,
+        writes,
         places,
         counts,
     );
@@ -349,18 +385,20 @@ pub fn survey(
     kills: &mut [u64],
     targets: &mut [u16],
     starts: &mut [u16],
+    reads: &mut [u64],
+    writes: &mut [u64],
     places: &mut [u16],
     counts: &mut [u16],
     firsts: &mut [u16],
 ) -> Overview
     requires { ⌜ (length (now file) ≤ 16384) × (2341 ≤ length (now numbers)) × Sane (now table) × Sound own
         × (length (now gens) ≡ 1024) × (length (now kills) ≡ 1024) × (length (now targets) ≡ 5462) × (length (now starts) ≡ 129)
-        × (length (now places) ≡ 4097) × (length (now counts) ≡ 4097) × (length (now firsts) ≡ 129) ⌝ }
+        × (length (now reads) ≡ 520) × (length (now writes) ≡ 520) × (length (now places) ≡ 4097) × (length (now counts) ≡ 4097) × (length (now firsts) ≡ 129) ⌝ }
     ensures { λ r. ⌜ Given (now (gens .exit)) (now (kills .exit)) (now (targets .exit)) (now (starts .exit)) (r .blocks) × Sound (r .after)
         × ((us : List ℕ) (fn : Function) → Ready (now (file .entry)) us (now (numbers .entry)) (now (table .entry)) → StandsAt (now (file .entry)) own
         → List·Memᴰ fn (program one (now (file .entry)) .functions)
         → fn .abis ≡ from (now (file .entry)) (own .at) .abis → fn .blocks ≡ from (now (file .entry)) (own .at) .blocks
-        → Surveyed (now (file .entry)) us fn (now (gens .exit)) (now (kills .exit)) (now (targets .exit)) (now (starts .exit)) (now (places .exit)) (now (counts .exit)) (now (firsts .exit)) (r .blocks)
+        → Surveyed (now (file .entry)) us fn (now (gens .exit)) (now (kills .exit)) (now (targets .exit)) (now (starts .exit)) (now (reads .exit)) (now (writes .exit)) (now (places .exit)) (now (counts .exit)) (now (firsts .exit)) (r .blocks)
         × StandsAt (now (file .entry)) (r .after)
         × (from (now (file .entry)) (r .after .at) .functions ≡ from (now (file .entry)) (own .at) .functions)
         × ((FunctionHere (now (file .entry)) (r .after .at) → ⊥) → from (now (file .entry)) (r .after .at) .functions ≡ [])) ⌝ }
@@ -388,6 +426,8 @@ pub fn survey(
             kills,
             targets,
             starts,
+            reads,
+            writes,
             places,
             counts,
             firsts,

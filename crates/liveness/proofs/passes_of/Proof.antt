@@ -26,8 +26,16 @@ slice-aggregate-survey-6 c = search needs
 slice-aggregate-survey-7 : tie.Need-slice-aggregate-survey-7
 slice-aggregate-survey-7 c = search needs
 
+slice-aggregate-survey-8 : tie.Need-slice-aggregate-survey-8
+slice-aggregate-survey-8 c = search needs
+
+slice-aggregate-survey-9 : tie.Need-slice-aggregate-survey-9
+slice-aggregate-survey-9 c = search needs
+
 survey-requires : tie.Need-survey-requires
-survey-requires c κs = search needs
+survey-requires c κs =
+    let p = c .before .before .before .before .before .before .before .before .before .before .before .before .before .pre in
+    (p .0, p .1, p .2, p .3, search needs, search needs, search needs, search needs, search needs, search needs, search needs, search needs, search needs)
 
 slice-aggregate-settle : tie.Need-slice-aggregate-settle
 slice-aggregate-settle c = search needs
@@ -49,7 +57,7 @@ same-length c = search needs
 
 returns : tie.Need-returns
 returns c =
-    λ us fn ready s m a b. live-of-file _ us _ _ fn _ _ _ _ _ _ _ _ _ _ ready m (c .before .before .before .before .before .before .before .before .before .before .before .before .before .before .before .survey .ensures .2 us fn ready s m a b .0) (c .before .before .settle .ensures)
+    λ us fn ready s m a b. live-of-file _ us _ _ fn _ _ _ _ _ _ _ _ _ _ _ _ ready m (c .before .before .before .before .before .before .before .before .before .before .before .before .before .before .before .before .before .survey .ensures .2 us fn ready s m a b .0) (c .before .before .settle .ensures)
 
 pub passes-of-spec : {M : Type 1} → statement M
 passes-of-spec =
@@ -62,6 +70,8 @@ passes-of-spec =
     slice-aggregate-survey-5
     slice-aggregate-survey-6
     slice-aggregate-survey-7
+    slice-aggregate-survey-8
+    slice-aggregate-survey-9
     survey-requires
     slice-aggregate-settle
     slice-aggregate-settle-2

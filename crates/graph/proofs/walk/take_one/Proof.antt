@@ -44,8 +44,8 @@ slice-aggregate-take-block c = search needs
 
 take-block-requires : tie.Need-take-block-requires
 take-block-requires c κs =
-    let p = c .before .before .before .before .before .before .before .before .before .before .before .before .before .before .before .before .before .before .before .before .before .pre in
-    (p .0, p .1, p .2, p .3, omega (arith, p .8 .1, p .4), omega (arith, p .8 .1, p .5), p .8 .0, p .8 .2, p .9, p .10, search needs, p .12, p .13, p .14)
+    let p = c .before .before .before .before .before .before .before .before .before .before .before .before .before .before .before .before .before .before .before .before .before .before .before .before .before .pre in
+    (p .0, p .1, p .2, p .3, p .4, p .5, omega (arith, p .10 .1, p .6), omega (arith, p .10 .1, p .7), p .10 .0, p .10 .2, p .11, p .12, search needs, p .14, p .15, p .16)
 
 same-length : tie.Need-same-length
 same-length c = search needs
@@ -56,11 +56,18 @@ same-length-2 c = search needs
 same-length-3 : tie.Need-same-length-3
 same-length-3 c = search needs
 
+same-length-4 : tie.Need-same-length-4
+same-length-4 c = search needs
+
+same-length-5 : tie.Need-same-length-5
+same-length-5 c = search needs
+
 returns : tie.Need-returns
 returns c =
-    let a = c .before .before .before .before .before .before .before .before .before .before .before .before .before .before .before .before .before .before .before .before .before .before .before .before .before .before .before .before .before in
+    let b = c .before .before .before .before .before .before .before .before .before .before .before in
+    let a = b .before .before .before .before .before .before .before .before .before .before .before .before .before .before .before .before .before .before .before .before .before .before .before .before .before .before in
     let p = a .pre in
-    one-taken _ _ _ _ _ _ (a .args .firsts .now) (a .args .b) _ _ (a .args .rows .now) _ _ _ _ _ _ _ _ _ (p .7) (p .11) (omega arith) (c .before .before .before .before .before .before .before .before .before .before .before .before .before .before .before .copy-row .ensures) (c .before .before .before .before .before .before .before .take-block .ensures)
+    one-taken _ _ _ _ _ _ (a .args .firsts .now) (a .args .b) _ _ (a .args .rows .now) _ _ _ _ _ _ _ _ _ _ _ _ _ (p .9) (p .13) (omega arith) (b .before .before .before .before .before .before .before .before .before .before .copy-row .ensures) (b .take-block .ensures)
 
 pub take-one-spec : {M : Type 1} → statement M
 take-one-spec =
@@ -82,4 +89,6 @@ take-one-spec =
     same-length
     same-length-2
     same-length-3
+    same-length-4
+    same-length-5
     returns)
