@@ -1,2 +1,1 @@
-mod Digits
-mod Joined
+mod Printed

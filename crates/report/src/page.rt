@@ -1,8 +1,8 @@
 // The page of a text that may be longer than the page: what stands there is written out when little
 // room is left. Each function puts its text at a place and answers where that text ends.
-use crate::text::put;
-use crate::text::put_number;
 use libc::STDOUT_FILENO;
+use lines::text::put;
+use lines::text::put_number;
 ghost use Prim.Native.Nat.{_+_, _≤_};
 ghost use lib.ListN.{length};
 
@@ -13,12 +13,12 @@ pub fn write_out(page: &[u8], count: usize)
     io::write_all(STDOUT_FILENO, &page[..count]);
 }
 
-// Makes room for 1,024 bytes: where fewer are left, the page is written out and starts anew.
-pub fn room(page: &mut [u8; 65536], at: usize) -> usize
-    requires { ⌜ at ≤ 65536 ⌝ }
-    ensures { λ r. ⌜ r ≤ 64512 ⌝ }
+// Makes room for so many bytes: where fewer are left, the page is written out and starts anew.
+pub fn room(page: &mut [u8; 65536], at: usize, bytes: usize) -> usize
+    requires { ⌜ (at ≤ 65536) × (bytes ≤ 65536) ⌝ }
+    ensures { λ r. ⌜ r + bytes ≤ 65536 ⌝ }
 {
-    if at <= 64512 {
+    if at <= 65536 - bytes {
         return at;
     }
     write_out(page, at);
@@ -30,7 +30,7 @@ pub fn put_word(page: &mut [u8; 65536], at: usize, word: &[u8]) -> usize
     requires { ⌜ (at ≤ 65536) × (length (now word) ≤ 1000) ⌝ }
     ensures { λ r. ⌜ r ≤ 65536 ⌝ }
 {
-    let start = room(page, at);
+    let start = room(page, at, 1024);
     put(page, start, word)
 }
 
@@ -39,7 +39,7 @@ pub fn put_named(page: &mut [u8; 65536], at: usize, word: &[u8], number: u64) ->
     requires { ⌜ (at ≤ 65536) × (length (now word) ≤ 1000) ⌝ }
     ensures { λ r. ⌜ r ≤ 65536 ⌝ }
 {
-    let start = room(page, at);
+    let start = room(page, at, 1024);
     let name = put(page, start, word);
     put_number(page, name, number)
 }

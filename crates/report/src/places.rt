@@ -21,7 +21,7 @@ pub fn next_place(file: &[u8], place: usize) -> usize
 }
 
 // A byte as a number of the machine's width.
-pub fn wide(b: u8) -> usize {
+fn wide(b: u8) -> usize {
     b as usize
 }
 

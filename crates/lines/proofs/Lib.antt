@@ -1,0 +1,3 @@
+mod Digits
+mod Joined
+mod Placed
