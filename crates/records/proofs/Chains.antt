@@ -2,13 +2,17 @@
 -- above, and at the chain's end nowhere (`seek-none`). One unit more goes to the front of its bucket's chain and leaves the others (`chained-more`).
 use mathlib.Core.Path.{_≡_, refl, sym, ap, _∙_}
 use mathlib.Core.Bool.{Bool, true, false, true≢false}
-use mathlib.Core.List.{List, [], _∷_, _++_, append-assoc}
-use Prim.Native.Nat.{ℕ, zero, suc, _+_, _-_, _≤_, _<_}
+use mathlib.Core.Logic.{⊎-elim}
+use mathlib.Core.List.{List, [], _∷_, _++_, map, map-append, append-assoc}
+use Prim.Native.Nat.{ℕ, suc, _+_, _-_, _≤_, _<_}
 use native.Mathlib.Omega.{arith}
-use lib.Dec.{ltb, eqb}
-use lib.ListN.{length, getD, set, drop, replicate, length-append, length-set, length-replicate, List·getD-append}
+use native.Mathlib.Decide.{ℕ-discrete}
+use lib.ListN.{length, getD, set, drop, replicate, length-append, length-set, length-replicate, length-map, List·getD-append, List·getD-map}
 use lib.Seq.{getD-append-seam, set-append-seam, getD-set-same, getD-set-other}
-use borrow.Author.Tests.{ltb-true, ltb-false, eqb-true, eqb-false}
+use Rattle.rows.specs.Links.{lastOf}
+use Rattle.rows.proofs.Rows.{lt-or-ge}
+use Rattle.rows.proofs.Members.{getD-none}
+use Rattle.rows.proofs.Links.{last-within, last-has, last-none, linked-none, linked-more}
 use Rattle.fields.specs.Pick.{pick, pick-yes, pick-no, has}
 use Rattle.records.specs.Units.{numberIn}
 use Rattle.records.specs.Outcome.{laid}
@@ -17,41 +21,13 @@ use Rattle.records.proofs.Numbers.{number-low, number-at, at-has}
 
 -- Lists with one more or one changed --------------------------------------------------------------------------------------------------------
 
-snoc-length : (us : List ℕ) (word : ℕ) → length (us ++ (word ∷ [])) ≡ suc (length us)
-snoc-length us word = omega (arith, length-append us (word ∷ []))
-
-snoc-in : (us : List ℕ) (word i : ℕ) → i < length us → getD (us ++ (word ∷ [])) i 0 ≡ getD us i 0
-snoc-in us word i l = List·getD-append us (word ∷ []) 0 i l
-
-snoc-last : (us : List ℕ) (word : ℕ) → getD (us ++ (word ∷ [])) (length us) 0 ≡ word
-snoc-last us word = getD-append-seam us word [] 0
-
--- a place of a list with one more is the last, or one of the list's
-snoc-cases : (us : List ℕ) (word i : ℕ) → i < length (us ++ (word ∷ [])) → (P : ℕ → Type 0) → (i ≡ length us → P word) → (i < length us → P (getD us i 0)) → P (getD (us ++ (word ∷ [])) i 0)
-snoc-cases us word i l P p q = go (ltb i (length us)) refl
-  where
-    go : (t : Bool) → ltb i (length us) ≡ t → P (getD (us ++ (word ∷ [])) i 0)
-    go true e = let h = ltb-true i (length us) e in rw (snoc-in us word i h) (q h)
-    go false e =
-        let h : i ≡ length us = omega (arith, ltb-false i (length us) e, snoc-length us word) in
-        let s : getD (us ++ (word ∷ [])) i 0 ≡ word = rw h (snoc-last us word) in
-        rw s (p h)
-
 -- a place of a changed list is the one that is changed, or another
-set-cases : (l : List ℕ) (i v j : ℕ) → i < length l → (P : ℕ → Type 0) → (j ≡ i → P v) → ((j ≡ i → ⊥) → P (getD l j 0)) → P (getD (set l i v) j 0)
-set-cases l i v j s P p q = go (eqb j i) refl
+set-cases : (l : List ℕ) (i v j : ℕ) → i < length l → (P : ℕ → Type 0) → (j ≡ i → P v) → P (getD l j 0) → P (getD (set l i v) j 0)
+set-cases l i v j s P p q = go (ℕ-discrete j i)
   where
-    go : (t : Bool) → eqb j i ≡ t → P (getD (set l i v) j 0)
-    go true e =
-        let h : j ≡ i = eqb-true j i e in
-        let w : getD (set l i v) j 0 ≡ v = rw h (getD-set-same l i v 0 s) in
-        rw w (p h)
-    go false e = let h : j ≡ i → ⊥ = eqb-false j i e in rw (getD-set-other l i j v 0 h) (q h)
-
-zeros : (n i : ℕ) → _≡_ {A = ℕ} (getD (replicate n 0) i 0) 0
-zeros zero i = refl
-zeros (suc n) zero = refl
-zeros (suc n) (suc i) = zeros n i
+    go : Dec (j ≡ i) → P (getD (set l i v) j 0)
+    go (yes e) = rw (e, getD-set-same l i v 0 s) (p e)
+    go (no e) = rw (getD-set-other l i j v 0 e) q
 
 -- the buffer's needed part holds the units from its start on, and one more is one store
 pub laid-at : (n : ℕ) (us before : List ℕ) (i : ℕ) → i < length us → getD (laid n us before) i 0 ≡ getD us i 0
@@ -61,8 +37,8 @@ laid-at n us before i l = rw append-assoc (List·getD-append us (replicate (n - 
 pub laid-more : (n : ℕ) (us before : List ℕ) (word : ℕ) → length us < n → set (laid n us before) (length us) word ≡ laid n (us ++ (word ∷ [])) before
 unfolding laid
 laid-more n us before word l =
-    let k : n - length us ≡ suc (n - suc (length us)) = omega arith in
-    rw (snoc-length us word, k) (simp append-assoc (set-append-seam us 0 (replicate (n - suc (length us)) 0 ++ drop n before) word))
+    let k : n - length us ≡ suc (n - (length us + 1)) = omega arith in
+    rw (length-append us (word ∷ []), k) (simp append-assoc (set-append-seam us 0 (replicate (n - (length us + 1)) 0 ++ drop n before) word))
 
 not-there : (us : List ℕ) (word i : ℕ) → has word us ≡ false → i < length us → getD us i 0 ≡ word → ⊥
 not-there us word i n l e = true≢false (sym (at-has us i l) ∙ (ap (λ (w : ℕ). has w us) e ∙ n))
@@ -76,15 +52,11 @@ chained-none =
           record {
             manyHeads = length-replicate {A = ℕ} 256 0;
             manyNexts = length-replicate {A = ℕ} 512 0;
-            headLow = λ b. omega (arith, zeros 256 b);
-            nextLow = λ i. omega (arith, zeros 512 i);
+            headLow = λ b. omega (arith, getD-none 256 b);
+            nextLow = λ i. omega (arith, getD-none 512 i);
           };
       once = λ i j l m e. absurd (omega arith);
-      headIn = λ b. omega (arith, zeros 256 b);
-      headIs = λ b i l e. absurd (omega (arith, zeros 256 b));
-      headLast = λ b j l m n e. absurd (omega arith);
-      nextIs = λ i k l e. absurd (omega arith);
-      nextLast = λ i j l m n e. absurd (omega arith);
+      linked = linked-none (replicate 512 0);
     }
 
 module _ (us heads nexts : List ℕ) (word bucket : ℕ) (c : Chained us heads nexts) (new : has word us ≡ false) (is : bucket ≡ bucketOf word) (under : bucket < 256) (room : length us < 512) where
@@ -99,59 +71,41 @@ module _ (us heads nexts : List ℕ) (word bucket : ℕ) (c : Chained us heads n
       record {
         manyHeads = length-set heads bucket (length us + 1) ∙ c .low .manyHeads;
         manyNexts = length-set nexts (length us) (getD heads bucket 0) ∙ c .low .manyNexts;
-        headLow = λ b. set-cases heads bucket (length us + 1) b head-room (λ v. v ≤ 512) (λ _. omega arith) (λ _. c .low .headLow b);
-        nextLow = λ i. set-cases nexts (length us) (getD heads bucket 0) i next-room (λ v. v ≤ i) (λ e. omega (arith, c .headIn bucket)) (λ _. c .low .nextLow i);
+        headLow = λ b. set-cases heads bucket (length us + 1) b head-room (λ v. v ≤ 512) (λ _. omega arith) (c .low .headLow b);
+        nextLow = λ i.
+            set-cases nexts (length us) (getD heads bucket 0) i next-room (λ v. v ≤ i)
+            (λ e. omega (arith, c .linked .last-is bucket under, last-within bucket (map bucketOf us) (length us))) (c .low .nextLow i);
       }
 
-  once-more : (i j : ℕ) → i < length (us ++ (word ∷ [])) → j < length (us ++ (word ∷ [])) → getD (us ++ (word ∷ [])) i 0 ≡ getD (us ++ (word ∷ [])) j 0 → i ≡ j
-  once-more i j li lj =
-      snoc-cases us word i li (λ v. v ≡ getD (us ++ (word ∷ [])) j 0 → i ≡ j)
-      (λ ei. snoc-cases us word j lj (λ v. word ≡ v → i ≡ j) (λ ej _. ei ∙ sym ej) (λ l h. absurd (not-there us word j new l (sym h))))
-      (λ l. snoc-cases us word j lj (λ v. getD us i 0 ≡ v → i ≡ j) (λ _ h. absurd (not-there us word i new l h)) (λ m h. c .once i j l m h))
+  abbrev more : List ℕ
+  more = us ++ (word ∷ [])
 
-  head-is-more : (b i : ℕ) → b < 256 → getD (set heads bucket (length us + 1)) b 0 ≡ suc i → bucketOf (getD (us ++ (word ∷ [])) i 0) ≡ b
-  head-is-more b i l =
-      set-cases heads bucket (length us + 1) b head-room (λ v. v ≡ suc i → bucketOf (getD (us ++ (word ∷ [])) i 0) ≡ b)
-      (λ e q. let k : i ≡ length us = omega arith in rw (k, snoc-last us word) (sym is ∙ sym e))
-      (λ _ q. let k : i < length us = omega (arith, c .headIn b) in rw (snoc-in us word i k) (c .headIs b i l q))
+  -- a place is one of the list before, or the new one
+  old-at : (i : ℕ) → i < length more → (i ≡ length us → ⊥) → (i < length us) × (getD more i 0 ≡ getD us i 0)
+  old-at i l d = let m : i < length us = omega (arith, length-append us (word ∷ [])) in (m, List·getD-append us (word ∷ []) 0 i m)
 
-  head-last-more : (b j : ℕ) → b < 256 → getD (set heads bucket (length us + 1)) b 0 ≤ j → j < length (us ++ (word ∷ [])) → bucketOf (getD (us ++ (word ∷ [])) j 0) ≡ b → ⊥
-  head-last-more b j l q m =
-      set-cases heads bucket (length us + 1) b head-room (λ v. v ≤ j → bucketOf (getD (us ++ (word ∷ [])) j 0) ≡ b → ⊥)
-      (λ _ p _. omega (arith, snoc-length us word))
-      (λ n p. snoc-cases us word j m (λ v. bucketOf v ≡ b → ⊥) (λ _ h. n (sym h ∙ sym is)) (λ k h. c .headLast b j l p k h))
-      q
+  new-at : (i : ℕ) → i ≡ length us → getD more i 0 ≡ word
+  new-at i e = rw e (getD-append-seam us word [] 0)
 
-  next-is-more : (i k : ℕ) → i < length (us ++ (word ∷ [])) → getD (set nexts (length us) (getD heads bucket 0)) i 0 ≡ suc k
-      → bucketOf (getD (us ++ (word ∷ [])) k 0) ≡ bucketOf (getD (us ++ (word ∷ [])) i 0)
-  next-is-more i k l =
-      set-cases nexts (length us) (getD heads bucket 0) i next-room (λ v. v ≡ suc k → bucketOf (getD (us ++ (word ∷ [])) k 0) ≡ bucketOf (getD (us ++ (word ∷ [])) i 0))
-      (λ e q. let m : k < length us = omega (arith, c .headIn bucket) in rw (snoc-in us word k m, e, snoc-last us word) (c .headIs bucket k under q ∙ is))
-      (λ n q.
-      let a : i < length us = omega (arith, snoc-length us word) in
-      let b : k < length us = omega (arith, c .low .nextLow i) in
-      rw (snoc-in us word k b, snoc-in us word i a) (c .nextIs i k a q))
-
-  next-last-more : (i j : ℕ) → i < length (us ++ (word ∷ [])) → getD (set nexts (length us) (getD heads bucket 0)) i 0 ≤ j → j < i
-      → bucketOf (getD (us ++ (word ∷ [])) j 0) ≡ bucketOf (getD (us ++ (word ∷ [])) i 0) → ⊥
-  next-last-more i j l q m =
-      let a : j < length us = omega (arith, snoc-length us word) in
-      rw (snoc-in us word j a)
-      (set-cases nexts (length us) (getD heads bucket 0) i next-room (λ v. v ≤ j → bucketOf (getD us j 0) ≡ bucketOf (getD (us ++ (word ∷ [])) i 0) → ⊥)
-      (λ e p. rw (e, snoc-last us word) (λ h. c .headLast bucket j under p a (h ∙ sym is)))
-      (λ n p. let b : i < length us = omega (arith, snoc-length us word) in rw (snoc-in us word i b) (λ h. c .nextLast i j b p m h))
-      q)
+  once-more : (i j : ℕ) → i < length more → j < length more → getD more i 0 ≡ getD more j 0 → i ≡ j
+  once-more i j li lj e = go (ℕ-discrete i (length us)) (ℕ-discrete j (length us))
+    where
+      go : Dec (i ≡ length us) → Dec (j ≡ length us) → i ≡ j
+      go (yes p) (yes q) = p ∙ sym q
+      go (yes p) (no q) = let b = old-at j lj q in absurd (not-there us word j new (b .0) (sym (b .1) ∙ sym e ∙ new-at i p))
+      go (no p) (yes q) = let a = old-at i li p in absurd (not-there us word i new (a .0) (sym (a .1) ∙ e ∙ new-at j q))
+      go (no p) (no q) = let a = old-at i li p in let b = old-at j lj q in c .once i j (a .0) (b .0) (sym (a .1) ∙ e ∙ b .1)
 
   pub chained-more : Chained (us ++ (word ∷ [])) (set heads bucket (length us + 1)) (set nexts (length us) (getD heads bucket 0))
   chained-more =
       record {
         low = low-more;
         once = once-more;
-        headIn = λ b. rw (snoc-length us word) (set-cases heads bucket (length us + 1) b head-room (λ v. v ≤ suc (length us)) (λ _. omega arith) (λ _. omega (arith, c .headIn b)));
-        headIs = head-is-more;
-        headLast = head-last-more;
-        nextIs = next-is-more;
-        nextLast = next-last-more;
+        linked =
+            rw (map-append bucketOf us (word ∷ []), ← is, length-append us (word ∷ []))
+            (linked-more (map bucketOf us) heads nexts (set nexts (length us) (getD heads bucket 0)) (length us) bucket (c .linked) (sym (length-map us bucketOf)) under head-room
+            (getD-set-same nexts (length us) (getD heads bucket 0) 0 next-room)
+            (λ i l. getD-set-other nexts (length us) i (getD heads bucket 0) 0 (omega arith)));
       }
 
 -- what a function that appends has to show
@@ -169,32 +123,32 @@ pub record Past (us : List ℕ) (word next : ℕ) : Type 0 where
   pub same : (i : ℕ) → next ≡ suc i → bucketOf (getD us i 0) ≡ bucketOf word
   pub none : (j : ℕ) → next ≤ j → j < length us → getD us j 0 ≡ word → ⊥
 
+-- the key of a unit is its bucket
+key-at : (us : List ℕ) (i : ℕ) → getD (map bucketOf us) i 0 ≡ bucketOf (getD us i 0)
+unfolding bucketOf
+key-at us i = List·getD-map bucketOf us i 0
+
+-- The unit before `next` is the last one of the word's bucket among the first n, and the word is not behind them.
+past-at : (us : List ℕ) (word next n : ℕ) → n ≤ length us → next ≡ lastOf (bucketOf word) (map bucketOf us) n → ((j : ℕ) → n ≤ j → j < length us → getD us j 0 ≡ word → ⊥) → Past us word next
+past-at us word next n l is behind =
+    record {
+      within = omega (arith, last-within (bucketOf word) (map bucketOf us) n);
+      same = λ i e. sym (key-at us i) ∙ last-has (bucketOf word) (map bucketOf us) n i (sym is ∙ e);
+      none = λ j a m e. ⊎-elim (λ b. last-none (bucketOf word) (map bucketOf us) n j (omega arith) b (key-at us j ∙ ap bucketOf e)) (λ b. behind j b m e) (lt-or-ge j n);
+    }
+
 past-start : (us heads nexts : List ℕ) (word bucket : ℕ) → Chained us heads nexts → bucket ≡ bucketOf word → bucket < 256 → Past us word (getD heads bucket 0)
 past-start us heads nexts word bucket c is under =
-    record {
-      within = c .headIn bucket;
-      same = λ i e. c .headIs bucket i under e ∙ is;
-      none = λ j l m e. c .headLast bucket j under l m (ap bucketOf e ∙ sym is);
-    }
+    past-at us word (getD heads bucket 0) (length us) (omega arith) (c .linked .last-is bucket under ∙ ap (λ (b : ℕ). lastOf b (map bucketOf us) (length us)) is) (λ j l m e. omega arith)
 
 past-on : (us heads nexts : List ℕ) (word i : ℕ) → Chained us heads nexts → Past us word (suc i) → (getD us i 0 ≡ word → ⊥) → Past us word (getD nexts i 0)
 past-on us heads nexts word i c p other =
-    record {
-      within = omega (arith, c .low .nextLow i, p .within);
-      same = λ k e. c .nextIs i k here e ∙ p .same i refl;
-      none = λ j l m e. none j l m e (ltb j i) refl (eqb j i) refl;
-    }
+    past-at us word (getD nexts i 0) i (omega (arith, p .within))
+    (c .linked .before-is i (p .within) ∙ ap (λ (b : ℕ). lastOf b (map bucketOf us) i) (key-at us i ∙ p .same i refl)) (λ j l m e. behind j l m e (ℕ-discrete j i))
   where
-    here : i < length us
-    here = p .within
-
-    none : (j : ℕ) → getD nexts i 0 ≤ j → j < length us → getD us j 0 ≡ word → (t : Bool) → ltb j i ≡ t → (u : Bool) → eqb j i ≡ u → ⊥
-    none j l m e true a u b = c .nextLast i j here l (ltb-true j i a) (ap bucketOf e ∙ sym (p .same i refl))
-    none j l m e false a true b = other (rw (← eqb-true j i b) e)
-    none j l m e false a false b = p .none j (above (eqb-false j i b)) m e
-      where
-        above : (j ≡ i → ⊥) → suc i ≤ j
-        above n = omega (arith, ltb-false j i a)
+    behind : (j : ℕ) → i ≤ j → j < length us → getD us j 0 ≡ word → Dec (j ≡ i) → ⊥
+    behind j l m e (yes q) = other (rw q at e)
+    behind j l m e (no q) = p .none j (omega arith) m e
 
 -- the loop's invariant, for every list of units that the lent words stand for
 pub record Seeking (words heads nexts : List ℕ) (word next : ℕ) : Type 0 where

@@ -1,10 +1,11 @@
 -- How the code's numbers and lent words stand for the reader's state. Contracts of the functions inside this crate cite it; no public contract does.
 use mathlib.Core.Path.{_≡_}
 use mathlib.Core.Bool.{true}
-use mathlib.Core.List.{List, [], _∷_}
-use Prim.Native.Nat.{ℕ, suc, _+_, _*_, _/_, _%_, _≤_, _<_}
+use mathlib.Core.List.{List, [], _∷_, map}
+use Prim.Native.Nat.{ℕ, _+_, _*_, _/_, _%_, _≤_, _<_}
 use lib.ListN.{length, getD, take}
 use Rattle.rows.specs.Row.{pack}
+use Rattle.rows.specs.Links.{Linked}
 use Rattle.fields.specs.Pick.{has, times}
 use Rattle.fields.specs.Fields.{missing}
 use Rattle.fields.specs.Record.{Rec}
@@ -61,7 +62,7 @@ pub record Kept (s : State) : Type 0 where
   pub seenMost : seen (s .now .given) ≤ 16
   pub short : length (s .now .row) ≤ 6
 
--- Units are found by chains: a unit's bucket names the last unit of that bucket, and each unit the one before it there, both plus 1; 0 ends a chain.
+-- A unit's bucket, which is the key of its chain.
 unfoldable pub bucketOf : ℕ → ℕ
 bucketOf word = (word % 256 + word / 65536 % 256 * 37) % 256
 
@@ -72,14 +73,11 @@ pub record Low (heads nexts : List ℕ) : Type 0 where
   pub headLow : (b : ℕ) → getD heads b 0 ≤ 512
   pub nextLow : (i : ℕ) → getD nexts i 0 ≤ i
 
+-- Units are found by chains: no unit stands twice, and units are linked by their buckets.
 pub record Chained (us heads nexts : List ℕ) : Type 0 where
   pub low : Low heads nexts
   pub once : (i j : ℕ) → i < length us → j < length us → getD us i 0 ≡ getD us j 0 → i ≡ j
-  pub headIn : (b : ℕ) → getD heads b 0 ≤ length us
-  pub headIs : (b i : ℕ) → b < 256 → getD heads b 0 ≡ suc i → bucketOf (getD us i 0) ≡ b
-  pub headLast : (b j : ℕ) → b < 256 → getD heads b 0 ≤ j → j < length us → bucketOf (getD us j 0) ≡ b → ⊥
-  pub nextIs : (i k : ℕ) → i < length us → getD nexts i 0 ≡ suc k → bucketOf (getD us k 0) ≡ bucketOf (getD us i 0)
-  pub nextLast : (i j : ℕ) → i < length us → getD nexts i 0 ≤ j → j < i → bucketOf (getD us j 0) ≡ bucketOf (getD us i 0) → ⊥
+  pub linked : Linked (map bucketOf us) heads nexts (length us)
 
 -- The lent words hold the lists of a state: a row of ids, a table of functions, this function's blocks, the units with their chains, and the unit
 -- number of each record that names one.

@@ -4,3 +4,4 @@ pub mod Rows
 pub mod Members
 pub mod Fill
 pub mod Pack
+pub mod Links

@@ -1,6 +1,7 @@
 // Knows words. Gives sets of numbers as rows of u64 words inside a lent slice: number n of the row at base is bit n mod 64 of word base + n div 64.
 // How many words a row has is a parameter where it matters and is known nowhere else, so that one crate serves rows of every width.
 // Each contract is an equation of word lists, and what it means for the numbers of the set follows by the laws of proofs/Members and proofs/Pack.
+// What it is that numbers are linked by their keys stands in specs/Links, without code here: crates above keep such links in slices of their own.
 ghost use mathlib.Core.Path.{_≡_};
 ghost use mathlib.Core.Bool.{not};
 ghost use Prim.Native.Nat.{_+_, _/_, _^_, _≤_, _<_};

@@ -8,13 +8,14 @@ use native.Mathlib.Omega.{arith}
 use lib.Dec.{eqb, ltb}
 use lib.ListN.{length, getD, replicate}
 use lib.Seq.{ext-getD}
-use borrow.Author.Tests.{ltb-true, ltb-false, eqb-true, eqb-false, eq-eqb}
+use borrow.Author.Tests.{ltb-true, ltb-false, eqb-true, eqb-false, eq-eqb, ne-eqb}
 use Rattle.rows.specs.Row.{member, memberAt, with, withAt, sameRow}
+use Rattle.rows.specs.Links.{lastOf}
 use Rattle.rows.proofs.Rows.{same-refl, same-false}
 use Rattle.rows.proofs.Members.{member-at-zero, with-at-zero, length-with-at, member-with-same, member-with-other, getD-none, member-none}
+use Rattle.rows.proofs.Links.{last-cases, last-within, last-has}
 use Rattle.fields.specs.Pick.{pick, pick-yes, pick-no, _and_, _or_}
-use Rattle.turns.specs.Held.{lastOf, Linked, anyIn, Marked}
-use Rattle.turns.proofs.Linking.{last-within, last-has}
+use Rattle.turns.specs.Held.{KinLinked, anyIn, Marked}
 
 -- ---- The smaller id first
 
@@ -92,12 +93,9 @@ module _ (p : ℕ → Bool) (b k : ℕ) (ids rests numbers : List ℕ) where
   any-in-last : (n : ℕ) → anyIn p b k ids rests numbers (lastOf b rests n) ≡ anyIn p b k ids rests numbers n
   unfolding anyIn lastOf pick
   any-in-last zero = refl
-  any-in-last (suc n) = go (eqb (getD rests n 0) b) refl (any-in-last n)
-    where
-      go : (t : Bool) → eqb (getD rests n 0) b ≡ t → anyIn p b k ids rests numbers (lastOf b rests n) ≡ anyIn p b k ids rests numbers n
-          → anyIn p b k ids rests numbers (pick t (suc n) (lastOf b rests n)) ≡ ((t and (eqb (getD numbers n 0) k and p (getD ids n 0))) or anyIn p b k ids rests numbers n)
-      go true e h = ap (λ (t : Bool). (t and (eqb (getD numbers n 0) k and p (getD ids n 0))) or anyIn p b k ids rests numbers n) e
-      go false e h = h
+  any-in-last (suc n) =
+      last-cases b rests n (λ m. anyIn p b k ids rests numbers m ≡ anyIn p b k ids rests numbers (suc n)) (λ _. refl)
+      (λ d. any-in-last n ∙ sym (ap (λ (t : Bool). (t and (eqb (getD numbers n 0) k and p (getD ids n 0))) or anyIn p b k ids rests numbers n) (ne-eqb (getD rests n 0) b d)))
 
 and-true : (a : Bool) → (a and true) ≡ a
 unfolding pick
@@ -153,10 +151,10 @@ module _ (graph copies : List ℕ) (id b : ℕ) (ids rests numbers : List ℕ) (
       }
 
   module _ {next : ℕ} {seen barred partners : List ℕ} (m : Left next seen barred partners) where
-    module _ (kin : List ℕ) (linked : Linked rests kin count) (i : ℕ) (at : next ≡ suc i) where
+    module _ (kin : List ℕ) (linked : KinLinked rests kin count) (i : ℕ) (at : next ≡ suc i) where
       -- The links lead on downwards, to the last one before of the same remainder.
       leads : getD kin i 0 ≡ lastOf b rests i
-      leads = linked .befores i (omega (arith, m .within)) ∙ ap (λ (c : ℕ). lastOf c rests i) (m .has i at)
+      leads = linked .before-is i (omega (arith, m .within)) ∙ ap (λ (c : ℕ). lastOf c rests i) (m .has i at)
 
       pub leads-down : getD kin i 0 < next
       leads-down = omega (arith, leads, last-within b rests i)

@@ -25,7 +25,7 @@ use Rattle.turns.specs.declared.turn.Verdict.{Verdict}
 use Rattle.turns.specs.declared.turn.Verdict.the-variants as verdict
 use Rattle.places.specs.Memory.{Maps, reserve}
 use Rattle.places.specs.Place.{Opened, noOpened, joined, Placed, State, Outcome, done, placedAt, joinSlot, recordAt, recordOf, recordsOf}
-use Rattle.turns.specs.Held.{slotNumber, restsOf, Linked, linkedAt, Numbered, Kept, Held, listAfter, countAfter, TurnedBy}
+use Rattle.turns.specs.Held.{slotNumber, restsOf, KinLinked, linkedAt, Numbered, Kept, Held, listAfter, countAfter, TurnedBy}
 use Rattle.turns.proofs.Joining.{slotAt}
 use Rattle.turns.proofs.Numbering.{AllOwned, join-numbered, join-owned, take-numbered, take-owned}
 use Rattle.turns.proofs.Turns.{records-length, records-snoc}
@@ -88,14 +88,14 @@ low-more ids i id h l low j b = go (ℕ-discrete j i)
     go (yes e) = rw (e, getD-set-same ids i id 0 h) l
     go (no e) = rw (getD-set-other ids i j id 0 e) (low j (omega arith))
 
-rests-more : (ys : List Placed) (y : Placed) (kin : List ℕ) (i : ℕ) → i ≡ length ys → i < 256 → Linked (restsOf ys) kin i
-    → Linked (restsOf (ys ++ (y ∷ []))) (linkedAt kin i (y .what .owner % 256)) (i + 1)
-rests-more ys y kin i n h l =
-    subst (λ (rests : List ℕ). Linked rests (linkedAt kin i (y .what .owner % 256)) (i + 1)) (sym (map-append (λ (z : Placed). z .what .owner % 256) ys (y ∷ [])))
-    (linked-more (restsOf ys) kin i (y .what .owner % 256) l (n ∙ sym (length-map ys (λ (z : Placed). z .what .owner % 256))) h (omega arith))
+rests-more : (ys : List Placed) (y : Placed) (kin : List ℕ) (i : ℕ) → length kin ≡ 512 → i ≡ length ys → i < 256 → KinLinked (restsOf ys) kin i
+    → KinLinked (restsOf (ys ++ (y ∷ []))) (linkedAt kin i (y .what .owner % 256)) (i + 1)
+rests-more ys y kin i lk n h l =
+    rw (map-append (λ (z : Placed). z .what .owner % 256) ys (y ∷ []))
+    (linked-more (restsOf ys) kin i (y .what .owner % 256) l lk (n ∙ sym (length-map ys (λ (z : Placed). z .what .owner % 256))) h (omega arith))
 
 module _ (x : State) (list : List Slot) (n : ℕ) (ids kin numbers : List ℕ) (i : ℕ) (h : Kept x list n ids kin numbers i) where
-  module _ (li : length ids ≡ 256) (ln : length numbers ≡ 256) (room-left : i < 256) where
+  module _ (li : length ids ≡ 256) (lk : length kin ≡ 512) (ln : length numbers ≡ 256) (room-left : i < 256) where
     -- One storage more at the end, and slots that stand for the new state's.
     kept-more : (m : Maps) (ss : List Opened) (y : Placed) (list′ : List Slot) (n′ number : ℕ) → number ≡ slotNumber (y .slot) → y .what .id < 256
         → Numbered (record { maps = m; slots = ss; placed = x .placed ++ (y ∷ []) }) → AllOwned ss (x .placed ++ (y ∷ []))
@@ -106,7 +106,7 @@ module _ (x : State) (list : List Slot) (n : ℕ) (ids kin numbers : List ℕ) (
       slots-are = ts;
       count = omega (arith, h .count, length-append (x .placed) (y ∷ []));
       ids-are = front-more ids _ i (y .what .id) (omega arith) (h .ids-are) ∙ sym (map-append (λ (z : Placed). z .what .id) (x .placed) (y ∷ []));
-      linked = rests-more (x .placed) y kin i (h .count) room-left (h .linked);
+      linked = rests-more (x .placed) y kin i lk (h .count) room-left (h .linked);
       numbers-are =
           ap (λ (k : ℕ). take (i + 1) (set numbers i k)) e
           ∙ front-more numbers _ i (slotNumber (y .slot)) (omega arith) (h .numbers-are) ∙ sym (map-append (λ (z : Placed). slotNumber (z .slot)) (x .placed) (y ∷ []));
@@ -167,7 +167,7 @@ taken s x p = record {
 }
 
 module _ (s : Storage) (x : State) (app wrk : List ℕ) (list : List Slot) (n : ℕ) (ids kin numbers out : List ℕ) (i : ℕ) (h : Held x app wrk list n ids kin numbers out i)
-    (li : length ids ≡ 256) (ln : length numbers ≡ 256) (room-left : i < 256) (low : s .id < 256)
+    (li : length ids ≡ 256) (lk : length kin ≡ 512) (ln : length numbers ≡ 256) (room-left : i < 256) (low : s .id < 256)
     (ids′ kin′ numbers′ out′ : List ℕ) (number : ℕ) (p : Placement)
     (ei : ids′ ≡ set ids i (s .id)) (ew : kin′ ≡ linkedAt kin i (s .owner % 256)) (en : numbers′ ≡ set numbers i number) (eo : out′ ≡ put out (i * 8) (recordAt (s .id) p)) where
   -- The slot of a number takes the storage in.
@@ -184,7 +184,7 @@ module _ (s : Storage) (x : State) (app wrk : List ℕ) (list : List Slot) (n : 
         wrk-is = h .wrk-is;
         kept =
             rw (ei, ew, en)
-            (kept-more x list n ids kin numbers i k li ln room-left (x .maps) (set (x .slots) number (joined (s .id) t)) y list n number refl low
+            (kept-more x list n ids kin numbers i k li lk ln room-left (x .maps) (set (x .slots) number (joined (s .id) t)) y list n number refl low
             (join-numbered s x (k .numbered) number low-number) (join-owned s x (k .numbered) number low-number eq (k .owned))
             (k .many ∙ sym (length-set (x .slots) number (joined (s .id) t)))
             (k .slots-are ∙ sym (map-set-same (λ (o : Opened). o .slot) (x .slots) number (joined (s .id) t) noOpened refl)) (omega (arith, k .few)));
@@ -206,7 +206,7 @@ module _ (s : Storage) (x : State) (app wrk : List ℕ) (list : List Slot) (n : 
           wrk-is = ap (λ (m : Maps). m .wrk) maps;
           kept =
               rw (ei, ew, en)
-              (kept-more x list n ids kin numbers i k li ln room-left (reserve (room (s .len) p) (x .maps)) _ y (listAfter list n s (pick (tries s) (verdict.Opened p) verdict.Placed)) (countAfter n (pick (tries s) (verdict.Opened p) verdict.Placed)) number
+              (kept-more x list n ids kin numbers i k li lk ln room-left (reserve (room (s .len) p) (x .maps)) _ y (listAfter list n s (pick (tries s) (verdict.Opened p) verdict.Placed)) (countAfter n (pick (tries s) (verdict.Opened p) verdict.Placed)) number
               (number-for x list n ids kin numbers i k s p number e) low (take-numbered s x (k .numbered) p (reserve (room (s .len) p) (x .maps)) (tries s))
               (take-owned s x (k .numbered) p (tries s) (k .owned)) (o .0) (o .1) (o .2));
           out-is = eo ∙ records-more out (x .placed) y i (k .count) room-left (h .out-is);

@@ -5,8 +5,9 @@ use mathlib.Core.Bool.{Bool, true, false}
 use mathlib.Core.List.{List, [], _∷_, map}
 use Prim.Native.Nat.{ℕ, zero, suc, _+_, _*_, _%_, _≤_, _<_, min, max}
 use lib.Dec.{eqb}
-use lib.ListN.{length, take, getD, set}
+use lib.ListN.{length, take, drop, getD, set}
 use Rattle.rows.specs.Row.{memberAt}
+use Rattle.rows.specs.Links.{Linked}
 use Rattle.fields.specs.Pick.{pick, _and_, _or_, All}
 use Rattle.records.specs.Outcome.{laid}
 use Rattle.maps.specs.declared.Found.{Found}
@@ -56,16 +57,9 @@ pub record Tells (g : P.Given) (graph copies : List ℕ) : Type 0 where
 abbrev pub restsOf : List P.Placed → List ℕ
 restsOf ys = map (λ (y : P.Placed). y .what .owner % 256) ys
 
--- 1 + the last number below n that has the remainder b; 0 where none has.
-unfoldable pub lastOf : ℕ → List ℕ → ℕ → ℕ
-lastOf b rests zero = 0
-lastOf b rests (suc n) = pick (eqb (getD rests n 0) b) (suc n) (lastOf b rests n)
-
--- The links among the first i placed storages: entry 256 + b leads to the last one of remainder b, and the entry of a storage to the one before it of its own remainder.
-pub record Linked (rests kin : List ℕ) (i : ℕ) : Type 0 where
-  pub long : length kin ≡ 512
-  pub lasts : (b : ℕ) → b < 256 → getD kin (256 + b) 0 ≡ lastOf b rests i
-  pub befores : (j : ℕ) → j < i → getD kin j 0 ≡ lastOf (getD rests j 0) rests j
+-- The first i placed storages are linked by remainder: `kin` has the entries of the storages, and from 256 on those of the remainders.
+abbrev pub KinLinked : List ℕ → List ℕ → ℕ → Type 0
+KinLinked rests kin i = Linked rests (drop 256 kin) kin i
 
 -- The links with the i-th storage, of remainder b: it leads to the one that was the last, and is the last itself.
 abbrev pub linkedAt : List ℕ → ℕ → ℕ → List ℕ
@@ -92,7 +86,7 @@ pub record Kept (x : P.State) (list : List Slot) (n : ℕ) (ids kin numbers : Li
   pub slots-are : take n list ≡ map (λ (t : P.Opened). t .slot) (x .slots)
   pub count : i ≡ length (x .placed)
   pub ids-are : take i ids ≡ map (λ (y : P.Placed). y .what .id) (x .placed)
-  pub linked : Linked (restsOf (x .placed)) kin i
+  pub linked : KinLinked (restsOf (x .placed)) kin i
   pub numbers-are : take i numbers ≡ map (λ (y : P.Placed). slotNumber (y .slot)) (x .placed)
   pub numbered : Numbered x
   pub owned : All (λ (y : P.Placed). Owned (x .slots) y (y .slot)) (x .placed)

@@ -9,7 +9,7 @@ ghost use Rattle.rows.specs.Row.{memberAt, withAt, sameRow};
 ghost use Rattle.fields.specs.Pick.{pick, _and_};
 ghost use Rattle.slots.specs.Slots.{slotsIn};
 ghost use Rattle.places.specs.Place.{Given, State, slotFor};
-ghost use Rattle.turns.specs.Held.{Tells, Linked, Marked, Kept, slotIn};
+ghost use Rattle.turns.specs.Held.{Tells, KinLinked, Marked, Kept, slotIn};
 use slots::Page;
 use slots::search;
 use storages::Storage;
@@ -70,8 +70,8 @@ fn mark(
 )
     requires { ⌜ (length (now graph) ≡ 1024) × (length (now copies) ≡ 1024) × (id < 256) × (length (now ids) ≡ 256) × (length (now kin) ≡ 512) × (length (now numbers) ≡ 256) × (count ≤ 256)
         × ((j : ℕ) → j < count → getD (now ids) j 0 < 256)
-        × (now seen ≡ replicate 4 0) × (now barred ≡ replicate 4 0) × (now partners ≡ replicate 4 0) × ((rests : List ℕ) × Linked rests (now kin) count) ⌝ }
-    ensures { λ _. ⌜ ((rests : List ℕ) → Linked rests (now (kin .entry)) count
+        × (now seen ≡ replicate 4 0) × (now barred ≡ replicate 4 0) × (now partners ≡ replicate 4 0) × ((rests : List ℕ) × KinLinked rests (now kin) count) ⌝ }
+    ensures { λ _. ⌜ ((rests : List ℕ) → KinLinked rests (now (kin .entry)) count
         → Marked (now (graph .entry)) (now (copies .entry)) id (owner % 256) (now (ids .entry)) rests (now (numbers .entry)) count (now (seen .exit)) (now (barred .exit)) (now (partners .exit))) ⌝ }
 {
     let mut next = kin[256 + (owner % 256) as usize] as usize;
@@ -121,7 +121,7 @@ pub fn slot_for(
     count: usize,
 ) -> usize
     requires { ⌜ (n ≤ 256) × (s .id < 256) × (length (now graph) ≡ 1024) × (length (now copies) ≡ 1024) × (length (now ids) ≡ 256) × (length (now kin) ≡ 512) × (length (now numbers) ≡ 256) × (count ≤ 256)
-        × ((j : ℕ) → j < count → getD (now ids) j 0 < 256) × ((rests : List ℕ) × Linked rests (now kin) count) ⌝ }
+        × ((j : ℕ) → j < count → getD (now ids) j 0 < 256) × ((rests : List ℕ) × KinLinked rests (now kin) count) ⌝ }
     ensures { λ r. ⌜ ((g : Given) (x : State) → Tells g (now (graph .entry)) (now (copies .entry)) → Kept x (slotsIn list) n (now (ids .entry)) (now (kin .entry)) (now (numbers .entry)) count
         → r ≡ slotIn n (slotFor g s (x .slots))) ⌝ }
 {

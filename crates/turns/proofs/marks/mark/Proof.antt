@@ -5,14 +5,15 @@ use mathlib.Core.List.{List}
 use Prim.Native.Nat.{ℕ, _+_, _-_, _%_}
 use native.Mathlib.Omega.{arith}
 use lib.ListN.{length}
-use Rattle.turns.specs.Held.{Linked}
+use lib.Seq.{getD-drop}
+use Rattle.turns.specs.Held.{KinLinked}
 use Rattle.turns.proofs.Marking.{Left, mark-start, mark-next, mark-end, leads-down}
 use Rattle.turns.proofs.marks.mark.Statement.{statement}
 use Rattle.turns.proofs.marks.mark.Tie as tie
 
 abbrev Inv-loop : tie.InvT-loop
 Inv-loop graph copies id owner ids kin numbers count seen₀ barred₀ partners₀ next₀ seen barred partners next =
-    (rests : List ℕ) → Linked rests kin count → Left graph copies id (owner % 256) ids rests numbers count next seen barred partners
+    (rests : List ℕ) → KinLinked rests kin count → Left graph copies id (owner % 256) ids rests numbers count next seen barred partners
 
 abbrev μ-loop : tie.MeasureT-loop
 μ-loop graph copies id owner ids kin numbers count seen₀ barred₀ partners₀ next₀ seen barred partners next = next
@@ -35,7 +36,7 @@ cast-next-2 c = omega (arith, c .shared-slice-known6 .given (256 + c .before .be
 loop-holds : tie.Need-loop-holds Inv-loop μ-loop
 loop-holds c =
     let start = c .before .before .before .before .before .before .before .before .before in
-    λ rests linked. mark-start _ _ _ _ _ _ _ _ _ _ _ _ (linked .lasts _ (omega arith)) (start .pre .8) (start .pre .9) (start .pre .10)
+    λ rests linked. mark-start _ _ _ _ _ _ _ _ _ _ _ _ (sym (getD-drop 256 (start .args .kin .now) (start .args .owner % 256) 0) ∙ linked .last-is _ (omega arith)) (start .pre .8) (start .pre .9) (start .pre .10)
 
 sub-i : tie.Need-sub-i Inv-loop μ-loop
 sub-i c = omega arith

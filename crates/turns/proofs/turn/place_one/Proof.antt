@@ -48,7 +48,7 @@ returns c =
     λ g x t lo hi h. (
       joinSlot (a .args .s) x (f .slot-for .result),
       joins g (a .args .s) x _ _ (h .kept .many) (f .slot-for .ensures g x t (h .kept)) (j .if1 .taken),
-      joined-held (a .args .s) x _ _ _ _ _ _ _ _ _ h (a .pre .2) (a .pre .4) (a .pre .8) (a .pre .9) _ _ _ _ _ _
+      joined-held (a .args .s) x _ _ _ _ _ _ _ _ _ h (a .pre .2) (a .pre .3) (a .pre .4) (a .pre .8) (a .pre .9) _ _ _ _ _ _
           (n .note .ensures .0) (n .note .ensures .1) (n .note .ensures .2) (n .note .ensures .3) (j .if1 .taken)
           (joins-owner g (a .args .s) x _ _ (h .kept .many) (f .slot-for .ensures g x t (h .kept)) (j .if1 .taken)) (n .before .placement-at .ensures),
     )

@@ -79,7 +79,7 @@ returns-2 c =
     let a = q .before .before .before .before .before .before .before .before .before in
     let spot = p .p .given .0 .0 in
     λ g x list ll lo hi h.
-    taken-turned (a .args .s) x _ _ list _ _ _ _ _ _ h (a .pre .0) (a .pre .2) (a .pre .6) (a .pre .7) _ _ _ _ _ spot
+    taken-turned (a .args .s) x _ _ list _ _ _ _ _ _ h (a .pre .0) (a .pre .1) (a .pre .2) (a .pre .6) (a .pre .7) _ _ _ _ _ spot
     (n .note .ensures .0) (n .note .ensures .1) (n .note .ensures .2) (n .note .ensures .3) _ _ _ ll (n .before .number-for .ensures)
     (t .before .room-of .ensures) (t .take-room .ensures) _ _
     (ap (takeRoom (a .args .s) x) (chosen-is (a .args .s) _ _ g x _ _ (h .app-is) (h .wrk-is) (q .choose .ensures g lo hi) (p .p .given .1))) (c .opens .ensures)
