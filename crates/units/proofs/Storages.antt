@@ -4,11 +4,11 @@ use mathlib.Core.Path.{_≡_, refl, sym, ap, _∙_}
 use mathlib.Core.Logic.{_⊎_, inl, inr, ⊎-elim}
 use mathlib.Core.Bool.{Bool, true, false, true≢false}
 use mathlib.Core.List.{List, [], _∷_, _++_, map}
-use Prim.Native.Nat.{ℕ, zero, suc, _+_, _-_, _/_, _%_, _≤_, _<_}
+use Prim.Native.Nat.{ℕ, zero, suc, _+_, _/_, _%_, _≤_, _<_}
 use native.Mathlib.Numerals.{add-one}
 use native.Mathlib.Omega.{arith}
 use lib.Dec.{eqb}
-use lib.ListN.{length, getD, drop, replicate, List·getD-append, length-append}
+use lib.ListN.{length, getD, replicate}
 use borrow.Author.Tests.{eqb-true, eqb-false, eq-eqb, ltb-true, lt-ltb}
 use Rattle.rows.specs.Row.{member, memberAt, withAt, put, pack}
 use Rattle.rows.proofs.Tests.{same-test}
@@ -24,6 +24,7 @@ use Rattle.records.specs.Outcome.{laid}
 use Rattle.records.specs.Program.{Step, Block, Function, program}
 use Rattle.records.specs.Place.{step, stepAt}
 use Rattle.fields.proofs.Front.{and-both, and-make, or-cases, or-is}
+use Rattle.records.proofs.Chains.{laid-at}
 use Rattle.records.proofs.Numbers.{number-low, number-at}
 use Rattle.records.proofs.Shape.{idsOf}
 use Rattle.records.proofs.Contents.{OperandIn, AbiIn, StepIn, BlockIn, FunctionIn}
@@ -145,12 +146,6 @@ storage-part word s e = omega arith
 
 -- The storages of a set ---------------------------------------------------------------------------------------------------------------------
 
-laid-at : (us before : List ℕ) (n : ℕ) → n < length us → getD (laid 512 us before) n 0 ≡ getD us n 0
-unfolding laid
-laid-at us before n h =
-    List·getD-append (us ++ replicate (512 - length us) 0) (drop 512 before) 0 n (omega (arith, length-append us (replicate (512 - length us) 0)))
-    ∙ List·getD-append us (replicate (512 - length us) 0) 0 n h
-
 module _ (us set before : List ℕ) (few : length us ≤ 512) where
   abbrev words : List ℕ
   words = laid 512 us before
@@ -173,14 +168,14 @@ module _ (us set before : List ℕ) (few : length us ≤ 512) where
     where
       there : (i : ℕ) → has i (storagesBelow words (unitRow one us set) 512) ≡ true → has i (map (storageOf one) set) ≡ true
       there = below-in words (unitRow one us set) (map (storageOf one) set) 512
-          (λ n l e. let k = number-in n l e in rw (laid-at us before n (k .0)) (map-in (storageOf one) (getD us n 0) set (k .1)))
+          (λ n l e. let k = number-in n l e in rw (laid-at 512 us before n (k .0)) (map-in (storageOf one) (getD us n 0) set (k .1)))
 
       back : (i : ℕ) → has i (map (storageOf one) set) ≡ true → has i (storagesBelow words (unitRow one us set) 512) ≡ true
       back i h =
           let r = map-from (storageOf one) i set h in
           let k = inside (r .word) (r .is-in) in
           let l = number-low (r .word) us k in
-          let e : storageOf one (getD words (numberIn (r .word) us) 0) ≡ i = ap (storageOf one) (laid-at us before (numberIn (r .word) us) l ∙ number-at (r .word) us k) ∙ r .gives in
+          let e : storageOf one (getD words (numberIn (r .word) us) 0) ≡ i = ap (storageOf one) (laid-at 512 us before (numberIn (r .word) us) l ∙ number-at (r .word) us k) ∙ r .gives in
           rw (← e) (below-has words (unitRow one us set) 512 (numberIn (r .word) us) (omega (arith, l)) (in-number (r .word) (r .is-in) k))
 
 -- What a step reads and writes has numbers -----------------------------------------------------------------------------------------------------
