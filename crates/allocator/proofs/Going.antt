@@ -93,7 +93,7 @@ module _ (file graph copies app wrk : List ℕ) (list : List Page) (ids kin numb
       linked = linked-none kin clear;
       numbers-are = refl;
       numbered = record { members = λ j l. absurd (not-suc-le-zero l); filled = λ j l. absurd (not-suc-le-zero l); numbers = tt };
-      owned = tt;
+      keyed = tt;
       low = λ j l. absurd (not-suc-le-zero l);
       few = omega arith;
     };

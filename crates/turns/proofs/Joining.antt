@@ -21,8 +21,10 @@ use Rattle.units.specs.Sets.{any}
 use Rattle.maps.specs.declared.Found.{Found}
 use Rattle.maps.specs.declared.Found.the-variants.{Nothing, At}
 use Rattle.maps.specs.Maps.{later}
+use Rattle.slots.specs.declared.Slot.{Slot}
 use Rattle.slots.specs.Slots.{suits}
 use Rattle.places.specs.Place.{Given, Opened, noOpened, fits, partners, fitsCopied, firstSlot, orElse, slotFor}
+use Rattle.turns.specs.Held.{keyOf, slotKey}
 use Rattle.places.proofs.Tests.{and-l, and-r}
 
 abbrev pub slotAt : List Opened → ℕ → Opened
@@ -127,3 +129,11 @@ fits-out g s t h =
       region = and-l (allows s (regionOf (t .slot .placement))) _ d;
       alone = T-not (any (g .meets (s .id)) (t .members)) (and-r (suits s (t .slot)) _ h);
     }
+
+-- A slot that suits a storage has its key, since it has its owner, kind and length.
+pub suits-key : (s : Storage) (t : Slot) → T (suits s t) → slotKey t ≡ keyOf s
+unfolding suits
+suits-key s t a =
+    let b = and-r (eqb (t .owner) (s .owner)) _ a in
+    let c = and-r (eqb (t .kind) (s .kind)) _ b in
+    rw (eqb→eq (t .owner) (s .owner) (and-l _ _ a), eqb→eq (t .kind) (s .kind) (and-l _ _ b), eqb→eq (t .len) (s .len) (and-l _ _ c)) refl

@@ -1,4 +1,4 @@
--- The rows of slots while the links of a remainder are followed. A storage in slot k changes number k of a row and no other, and only if it passes the row's test;
+-- The rows of slots while the links of a key are followed. A storage in slot k changes number k of a row and no other, and only if it passes the row's test;
 -- so what a row tells, together with the storages that the links still lead to, stays the same, and at the end it is all. A number over 255 is no slot's.
 use mathlib.Core.Path.{_≡_, refl, sym, ap, _∙_}
 use mathlib.Core.Bool.{Bool, true, false, not}
@@ -83,19 +83,19 @@ put-length t r z k e = ap length e ∙ pick-length t (withAt r 0 k) r (length-wi
 pub none-marked : (k : ℕ) → memberAt (replicate 4 0) 0 k ≡ false
 none-marked k = member-at-zero (replicate 4 0) k ∙ member-none 4 k
 
--- One storage more: of the remainder, it counts if it is in the slot and passes; between the last of the remainder and the end none counts.
-module _ (p : ℕ → Bool) (b k : ℕ) (ids rests numbers : List ℕ) where
-  any-in-own : (n : ℕ) → getD rests n 0 ≡ b
-      → anyIn p b k ids rests numbers (suc n) ≡ ((eqb (getD numbers n 0) k and p (getD ids n 0)) or anyIn p b k ids rests numbers n)
+-- One storage more: of the key, it counts if it is in the slot and passes; between the last of the key and the end none counts.
+module _ (p : ℕ → Bool) (b k : ℕ) (ids keys numbers : List ℕ) where
+  any-in-own : (n : ℕ) → getD keys n 0 ≡ b
+      → anyIn p b k ids keys numbers (suc n) ≡ ((eqb (getD numbers n 0) k and p (getD ids n 0)) or anyIn p b k ids keys numbers n)
   unfolding anyIn
-  any-in-own n e = ap (λ (t : Bool). t or anyIn p b k ids rests numbers n) (pick-yes (eqb (getD rests n 0) b) _ false (eq-eqb (getD rests n 0) b e))
+  any-in-own n e = ap (λ (t : Bool). t or anyIn p b k ids keys numbers n) (pick-yes (eqb (getD keys n 0) b) _ false (eq-eqb (getD keys n 0) b e))
 
-  any-in-last : (n : ℕ) → anyIn p b k ids rests numbers (lastOf b rests n) ≡ anyIn p b k ids rests numbers n
+  any-in-last : (n : ℕ) → anyIn p b k ids keys numbers (lastOf b keys n) ≡ anyIn p b k ids keys numbers n
   unfolding anyIn lastOf pick
   any-in-last zero = refl
   any-in-last (suc n) =
-      last-cases b rests n (λ m. anyIn p b k ids rests numbers m ≡ anyIn p b k ids rests numbers (suc n)) (λ _. refl)
-      (λ d. any-in-last n ∙ sym (ap (λ (t : Bool). (t and (eqb (getD numbers n 0) k and p (getD ids n 0))) or anyIn p b k ids rests numbers n) (ne-eqb (getD rests n 0) b d)))
+      last-cases b keys n (λ m. anyIn p b k ids keys numbers m ≡ anyIn p b k ids keys numbers (suc n)) (λ _. refl)
+      (λ d. any-in-last n ∙ sym (ap (λ (t : Bool). (t and (eqb (getD numbers n 0) k and p (getD ids n 0))) or anyIn p b k ids keys numbers n) (ne-eqb (getD keys n 0) b d)))
 
 and-true : (a : Bool) → (a and true) ≡ a
 unfolding pick
@@ -113,15 +113,15 @@ or-turn true true c = refl
 or-turn true false c = refl
 or-turn false b c = refl
 
-module _ (graph copies : List ℕ) (id b : ℕ) (ids rests numbers : List ℕ) (count : ℕ) where
+module _ (graph copies : List ℕ) (id b : ℕ) (ids keys numbers : List ℕ) (count : ℕ) where
   -- What a row tells, together with the storages below `next`, is what all of them come to.
   abbrev RowLeft : (ℕ → Bool) → ℕ → List ℕ → Type 0
-  RowLeft p next row = (k : ℕ) → k < 256 → (memberAt row 0 k or anyIn p b k ids rests numbers next) ≡ anyIn p b k ids rests numbers count
+  RowLeft p next row = (k : ℕ) → k < 256 → (memberAt row 0 k or anyIn p b k ids keys numbers next) ≡ anyIn p b k ids keys numbers count
 
   -- The loop's invariant, where `next` - 1 is the storage to which the links lead.
   pub record Left (next : ℕ) (seen barred partners : List ℕ) : Type 0 where
     pub within : next ≤ count
-    pub has : (i : ℕ) → next ≡ suc i → getD rests i 0 ≡ b
+    pub has : (i : ℕ) → next ≡ suc i → getD keys i 0 ≡ b
     pub seen-left : RowLeft (λ j. true) next seen
     pub barred-left : RowLeft (λ j. memberAt graph (id * 4) j) next barred
     pub partners-left : RowLeft (λ j. memberAt copies (min id j * 4) (max id j)) next partners
@@ -129,19 +129,19 @@ module _ (graph copies : List ℕ) (id b : ℕ) (ids rests numbers : List ℕ) (
     pub barred-four : length barred ≡ 4
     pub partners-four : length partners ≡ 4
 
-  -- At first no slot is marked, and the last storage of the remainder is next.
-  row-start : (p : ℕ → Bool) (row : List ℕ) (next : ℕ) → row ≡ replicate 4 0 → next ≡ lastOf b rests count → RowLeft p next row
+  -- At first no slot is marked, and the last storage of the key is next.
+  row-start : (p : ℕ → Bool) (row : List ℕ) (next : ℕ) → row ≡ replicate 4 0 → next ≡ lastOf b keys count → RowLeft p next row
   unfolding pick
   row-start p row next e q k l =
-      ap (λ (r : List ℕ). memberAt r 0 k or anyIn p b k ids rests numbers next) e ∙ ap (λ (t : Bool). t or anyIn p b k ids rests numbers next) (none-marked k)
-      ∙ ap (anyIn p b k ids rests numbers) q ∙ any-in-last p b k ids rests numbers count
+      ap (λ (r : List ℕ). memberAt r 0 k or anyIn p b k ids keys numbers next) e ∙ ap (λ (t : Bool). t or anyIn p b k ids keys numbers next) (none-marked k)
+      ∙ ap (anyIn p b k ids keys numbers) q ∙ any-in-last p b k ids keys numbers count
 
-  pub mark-start : (next : ℕ) (seen barred partners : List ℕ) → next ≡ lastOf b rests count → seen ≡ replicate 4 0 → barred ≡ replicate 4 0 → partners ≡ replicate 4 0
+  pub mark-start : (next : ℕ) (seen barred partners : List ℕ) → next ≡ lastOf b keys count → seen ≡ replicate 4 0 → barred ≡ replicate 4 0 → partners ≡ replicate 4 0
       → Left next seen barred partners
   mark-start next seen barred partners q es eb ep =
       record {
-        within = omega (arith, last-within b rests count);
-        has = λ i e. last-has b rests count i (sym q ∙ e);
+        within = omega (arith, last-within b keys count);
+        has = λ i e. last-has b keys count i (sym q ∙ e);
         seen-left = row-start _ seen next es q;
         barred-left = row-start _ barred next eb q;
         partners-left = row-start _ partners next ep q;
@@ -151,23 +151,23 @@ module _ (graph copies : List ℕ) (id b : ℕ) (ids rests numbers : List ℕ) (
       }
 
   module _ {next : ℕ} {seen barred partners : List ℕ} (m : Left next seen barred partners) where
-    module _ (kin : List ℕ) (linked : KinLinked rests kin count) (i : ℕ) (at : next ≡ suc i) where
-      -- The links lead on downwards, to the last one before of the same remainder.
-      leads : getD kin i 0 ≡ lastOf b rests i
-      leads = linked .before-is i (omega (arith, m .within)) ∙ ap (λ (c : ℕ). lastOf c rests i) (m .has i at)
+    module _ (kin : List ℕ) (linked : KinLinked keys kin count) (i : ℕ) (at : next ≡ suc i) where
+      -- The links lead on downwards, to the last one before of the same key.
+      leads : getD kin i 0 ≡ lastOf b keys i
+      leads = linked .before-is i (omega (arith, m .within)) ∙ ap (λ (c : ℕ). lastOf c keys i) (m .has i at)
 
       pub leads-down : getD kin i 0 < next
-      leads-down = omega (arith, leads, last-within b rests i)
+      leads-down = omega (arith, leads, last-within b keys i)
 
       -- A row in which the storage's slot was marked, if the storage passes the row's test.
       row-next : (p : ℕ → Bool) (row : List ℕ) → length row ≡ 4 → RowLeft p next row
           → RowLeft p (getD kin i 0) (pick (ltb (getD numbers i 0) 256 and p (getD ids i 0)) (withAt row 0 (getD numbers i 0)) row)
       row-next p row four e k l =
-          ap (λ (t : Bool). t or anyIn p b k ids rests numbers (getD kin i 0)) (put-in row (getD numbers i 0) k four l (p (getD ids i 0)) _ refl)
-          ∙ or-turn (eqb (getD numbers i 0) k and p (getD ids i 0)) (memberAt row 0 k) (anyIn p b k ids rests numbers (getD kin i 0))
-          ∙ ap (λ (t : Bool). memberAt row 0 k or ((eqb (getD numbers i 0) k and p (getD ids i 0)) or t)) (ap (anyIn p b k ids rests numbers) leads ∙ any-in-last p b k ids rests numbers i)
-          ∙ ap (λ (t : Bool). memberAt row 0 k or t) (sym (any-in-own p b k ids rests numbers i (m .has i at)))
-          ∙ ap (λ (n : ℕ). memberAt row 0 k or anyIn p b k ids rests numbers n) (sym at) ∙ e k l
+          ap (λ (t : Bool). t or anyIn p b k ids keys numbers (getD kin i 0)) (put-in row (getD numbers i 0) k four l (p (getD ids i 0)) _ refl)
+          ∙ or-turn (eqb (getD numbers i 0) k and p (getD ids i 0)) (memberAt row 0 k) (anyIn p b k ids keys numbers (getD kin i 0))
+          ∙ ap (λ (t : Bool). memberAt row 0 k or ((eqb (getD numbers i 0) k and p (getD ids i 0)) or t)) (ap (anyIn p b k ids keys numbers) leads ∙ any-in-last p b k ids keys numbers i)
+          ∙ ap (λ (t : Bool). memberAt row 0 k or t) (sym (any-in-own p b k ids keys numbers i (m .has i at)))
+          ∙ ap (λ (n : ℕ). memberAt row 0 k or anyIn p b k ids keys numbers n) (sym at) ∙ e k l
 
       -- What is left once the storage is marked.
       pub mark-next : (next′ : ℕ) (seen′ barred′ partners′ : List ℕ) → next′ ≡ getD kin i 0
@@ -179,9 +179,9 @@ module _ (graph copies : List ℕ) (id b : ℕ) (ids rests numbers : List ℕ) (
       mark-next next′ seen′ barred′ partners′ en es eb ep = rw (en, es, eb, ep) (
           record {
             within = omega (arith, leads-down, m .within);
-            has = λ j e. last-has b rests i j (sym leads ∙ e);
+            has = λ j e. last-has b keys i j (sym leads ∙ e);
             seen-left = λ k l.
-                ap (λ (t : Bool). memberAt (pick t (withAt seen 0 (getD numbers i 0)) seen) 0 k or anyIn (λ j. true) b k ids rests numbers (getD kin i 0)) (sym (and-true (ltb (getD numbers i 0) 256)))
+                ap (λ (t : Bool). memberAt (pick t (withAt seen 0 (getD numbers i 0)) seen) 0 k or anyIn (λ j. true) b k ids keys numbers (getD kin i 0)) (sym (and-true (ltb (getD numbers i 0) 256)))
                 ∙ row-next (λ j. true) seen (m .seen-four) (m .seen-left) k l;
             barred-left = row-next _ barred (m .barred-four) (m .barred-left);
             partners-left = row-next _ partners (m .partners-four) (m .partners-left);
@@ -191,13 +191,13 @@ module _ (graph copies : List ℕ) (id b : ℕ) (ids rests numbers : List ℕ) (
           })
 
     -- Where the links end, the rows tell of all.
-    row-end : next ≤ 0 → (p : ℕ → Bool) (row : List ℕ) → RowLeft p next row → (k : ℕ) → k < 256 → memberAt row 0 k ≡ anyIn p b k ids rests numbers count
+    row-end : next ≤ 0 → (p : ℕ → Bool) (row : List ℕ) → RowLeft p next row → (k : ℕ) → k < 256 → memberAt row 0 k ≡ anyIn p b k ids keys numbers count
     unfolding anyIn
     row-end h p row e k l =
         let none : next ≡ 0 = omega arith in
-        sym (or-false (memberAt row 0 k)) ∙ ap (λ (n : ℕ). memberAt row 0 k or anyIn p b k ids rests numbers n) (sym none) ∙ e k l
+        sym (or-false (memberAt row 0 k)) ∙ ap (λ (n : ℕ). memberAt row 0 k or anyIn p b k ids keys numbers n) (sym none) ∙ e k l
 
-    pub mark-end : next ≤ 0 → Marked graph copies id b ids rests numbers count seen barred partners
+    pub mark-end : next ≤ 0 → Marked graph copies id b ids keys numbers count seen barred partners
     mark-end h =
         record {
           seen-are = row-end h _ seen (m .seen-left);

@@ -25,9 +25,9 @@ use Rattle.turns.specs.declared.turn.Verdict.{Verdict}
 use Rattle.turns.specs.declared.turn.Verdict.the-variants as verdict
 use Rattle.places.specs.Memory.{Maps, reserve}
 use Rattle.places.specs.Place.{Opened, noOpened, joined, Placed, State, Outcome, done, placedAt, joinSlot, recordAt, recordOf, recordsOf}
-use Rattle.turns.specs.Held.{slotNumber, restsOf, KinLinked, linkedAt, Numbered, Kept, Held, listAfter, countAfter, TurnedBy}
+use Rattle.turns.specs.Held.{slotNumber, keyBy, keyOf, slotKey, keysOf, KinLinked, linkedAt, Numbered, Kept, Held, listAfter, countAfter, TurnedBy}
 use Rattle.turns.proofs.Joining.{slotAt}
-use Rattle.turns.proofs.Numbering.{AllOwned, join-numbered, join-owned, take-numbered, take-owned}
+use Rattle.turns.proofs.Numbering.{AllKeyed, join-numbered, join-keyed, take-numbered, take-keyed}
 use Rattle.turns.proofs.Turns.{records-length, records-snoc}
 use Rattle.turns.proofs.Linking.{linked-more}
 
@@ -88,30 +88,34 @@ low-more ids i id h l low j b = go (ℕ-discrete j i)
     go (yes e) = rw (e, getD-set-same ids i id 0 h) l
     go (no e) = rw (getD-set-other ids i j id 0 e) (low j (omega arith))
 
-rests-more : (ys : List Placed) (y : Placed) (kin : List ℕ) (i : ℕ) → length kin ≡ 512 → i ≡ length ys → i < 256 → KinLinked (restsOf ys) kin i
-    → KinLinked (restsOf (ys ++ (y ∷ []))) (linkedAt kin i (y .what .owner % 256)) (i + 1)
-rests-more ys y kin i lk n h l =
-    rw (map-append (λ (z : Placed). z .what .owner % 256) ys (y ∷ []))
-    (linked-more (restsOf ys) kin i (y .what .owner % 256) l lk (n ∙ sym (length-map ys (λ (z : Placed). z .what .owner % 256))) h (omega arith))
+key-low : (s : Storage) → keyOf s < 256
+unfolding keyBy
+key-low s = omega arith
+
+keys-more : (ys : List Placed) (y : Placed) (kin : List ℕ) (i : ℕ) → length kin ≡ 512 → i ≡ length ys → i < 256 → KinLinked (keysOf ys) kin i
+    → KinLinked (keysOf (ys ++ (y ∷ []))) (linkedAt kin i (keyOf (y .what))) (i + 1)
+keys-more ys y kin i lk n h l =
+    rw (map-append (λ (z : Placed). keyOf (z .what)) ys (y ∷ []))
+    (linked-more (keysOf ys) kin i (keyOf (y .what)) l lk (n ∙ sym (length-map ys (λ (z : Placed). keyOf (z .what)))) h (key-low (y .what)))
 
 module _ (x : State) (list : List Slot) (n : ℕ) (ids kin numbers : List ℕ) (i : ℕ) (h : Kept x list n ids kin numbers i) where
   module _ (li : length ids ≡ 256) (lk : length kin ≡ 512) (ln : length numbers ≡ 256) (room-left : i < 256) where
     -- One storage more at the end, and slots that stand for the new state's.
     kept-more : (m : Maps) (ss : List Opened) (y : Placed) (list′ : List Slot) (n′ number : ℕ) → number ≡ slotNumber (y .slot) → y .what .id < 256
-        → Numbered (record { maps = m; slots = ss; placed = x .placed ++ (y ∷ []) }) → AllOwned ss (x .placed ++ (y ∷ []))
+        → Numbered (record { maps = m; slots = ss; placed = x .placed ++ (y ∷ []) }) → AllKeyed ss (x .placed ++ (y ∷ []))
         → n′ ≡ length ss → take n′ list′ ≡ map (λ (o : Opened). o .slot) ss → n′ ≤ i + 1
-        → Kept (record { maps = m; slots = ss; placed = x .placed ++ (y ∷ []) }) list′ n′ (set ids i (y .what .id)) (linkedAt kin i (y .what .owner % 256)) (set numbers i number) (i + 1)
-    kept-more m ss y list′ n′ number e low nd ow tn ts tf = record {
+        → Kept (record { maps = m; slots = ss; placed = x .placed ++ (y ∷ []) }) list′ n′ (set ids i (y .what .id)) (linkedAt kin i (keyOf (y .what))) (set numbers i number) (i + 1)
+    kept-more m ss y list′ n′ number e low nd kd tn ts tf = record {
       many = tn;
       slots-are = ts;
       count = omega (arith, h .count, length-append (x .placed) (y ∷ []));
       ids-are = front-more ids _ i (y .what .id) (omega arith) (h .ids-are) ∙ sym (map-append (λ (z : Placed). z .what .id) (x .placed) (y ∷ []));
-      linked = rests-more (x .placed) y kin i lk (h .count) room-left (h .linked);
+      linked = keys-more (x .placed) y kin i lk (h .count) room-left (h .linked);
       numbers-are =
           ap (λ (k : ℕ). take (i + 1) (set numbers i k)) e
           ∙ front-more numbers _ i (slotNumber (y .slot)) (omega arith) (h .numbers-are) ∙ sym (map-append (λ (z : Placed). slotNumber (z .slot)) (x .placed) (y ∷ []));
       numbered = nd;
-      owned = ow;
+      keyed = kd;
       low = low-more ids i (y .what .id) (omega arith) low (h .low);
       few = tf;
     }
@@ -169,9 +173,9 @@ taken s x p = record {
 module _ (s : Storage) (x : State) (app wrk : List ℕ) (list : List Slot) (n : ℕ) (ids kin numbers out : List ℕ) (i : ℕ) (h : Held x app wrk list n ids kin numbers out i)
     (li : length ids ≡ 256) (lk : length kin ≡ 512) (ln : length numbers ≡ 256) (room-left : i < 256) (low : s .id < 256)
     (ids′ kin′ numbers′ out′ : List ℕ) (number : ℕ) (p : Placement)
-    (ei : ids′ ≡ set ids i (s .id)) (ew : kin′ ≡ linkedAt kin i (s .owner % 256)) (en : numbers′ ≡ set numbers i number) (eo : out′ ≡ put out (i * 8) (recordAt (s .id) p)) where
+    (ei : ids′ ≡ set ids i (s .id)) (ew : kin′ ≡ linkedAt kin i (keyOf s)) (en : numbers′ ≡ set numbers i number) (eo : out′ ≡ put out (i * 8) (recordAt (s .id) p)) where
   -- The slot of a number takes the storage in.
-  pub joined-held : number < n → slotAt (x .slots) number .slot .owner ≡ s .owner → p ≡ getD list number noSlot .placement
+  pub joined-held : number < n → slotKey (slotAt (x .slots) number .slot) ≡ keyOf s → p ≡ getD list number noSlot .placement
       → Held (joinSlot s x number) app wrk list n ids′ kin′ numbers′ out′ (i + 1)
   joined-held l eq e =
       let k = h .kept in
@@ -185,7 +189,7 @@ module _ (s : Storage) (x : State) (app wrk : List ℕ) (list : List Slot) (n : 
         kept =
             rw (ei, ew, en)
             (kept-more x list n ids kin numbers i k li lk ln room-left (x .maps) (set (x .slots) number (joined (s .id) t)) y list n number refl low
-            (join-numbered s x (k .numbered) number low-number) (join-owned s x (k .numbered) number low-number eq (k .owned))
+            (join-numbered s x (k .numbered) number low-number) (join-keyed s x (k .numbered) number low-number eq (k .keyed))
             (k .many ∙ sym (length-set (x .slots) number (joined (s .id) t)))
             (k .slots-are ∙ sym (map-set-same (λ (o : Opened). o .slot) (x .slots) number (joined (s .id) t) noOpened refl)) (omega (arith, k .few)));
         out-is = eo ∙ ap (λ (q : Placement). put out (i * 8) (recordAt (s .id) q)) there ∙ records-more out (x .placed) y i (k .count) room-left (h .out-is);
@@ -208,7 +212,7 @@ module _ (s : Storage) (x : State) (app wrk : List ℕ) (list : List Slot) (n : 
               rw (ei, ew, en)
               (kept-more x list n ids kin numbers i k li lk ln room-left (reserve (room (s .len) p) (x .maps)) _ y (listAfter list n s (pick (tries s) (verdict.Opened p) verdict.Placed)) (countAfter n (pick (tries s) (verdict.Opened p) verdict.Placed)) number
               (number-for x list n ids kin numbers i k s p number e) low (take-numbered s x (k .numbered) p (reserve (room (s .len) p) (x .maps)) (tries s))
-              (take-owned s x (k .numbered) p (tries s) (k .owned)) (o .0) (o .1) (o .2));
+              (take-keyed s x (k .numbered) p (tries s) (k .keyed)) (o .0) (o .1) (o .2));
           out-is = eo ∙ records-more out (x .placed) y i (k .count) room-left (h .out-is);
         }
 

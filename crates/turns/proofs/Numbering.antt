@@ -23,7 +23,7 @@ use Rattle.places.specs.declared.choose.Chosen.{Chosen}
 use Rattle.places.specs.declared.choose.Chosen.the-variants.{Spot, Refused}
 use Rattle.places.specs.Memory.{Maps, reserve}
 use Rattle.places.specs.Place.{Given, Opened, noOpened, joined, slotFor, choose, Placed, State, placedAt, takeRoom, joinSlot, stepBy, step, start}
-use Rattle.turns.specs.Held.{inSlot, idsIn, SlotBelow, Numbered, Owned}
+use Rattle.turns.specs.Held.{inSlot, idsIn, SlotBelow, Numbered, keyOf, slotKey, Keyed}
 use Rattle.places.proofs.Tests.{all-snoc, all-map, all-map₂}
 use Rattle.turns.proofs.Joining.{slotAt, SlotFor, slot-for}
 use Rattle.turns.proofs.Turns.{After}
@@ -78,15 +78,15 @@ below-more n m l y = go (y .slot)
     go Nothing h = tt
     go (At k) h = omega arith
 
-abbrev pub AllOwned : List Opened → List Placed → Type 0
-AllOwned ts ys = All (λ (y : Placed). Owned ts y (y .slot)) ys
+abbrev pub AllKeyed : List Opened → List Placed → Type 0
+AllKeyed ts ys = All (λ (y : Placed). Keyed ts y (y .slot)) ys
 
--- A storage keeps its slot's owner where the slots keep theirs.
-owned-still : (ts us : List Opened) → ((k : ℕ) → k < length ts → slotAt us k .slot .owner ≡ slotAt ts k .slot .owner) → (y : Placed) → SlotBelow (length ts) (y .slot)
-    → Owned ts y (y .slot) → Owned us y (y .slot)
-owned-still ts us e y = go (y .slot)
+-- A storage keeps its slot's key where the slots keep theirs.
+keyed-still : (ts us : List Opened) → ((k : ℕ) → k < length ts → slotKey (slotAt us k .slot) ≡ slotKey (slotAt ts k .slot)) → (y : Placed) → SlotBelow (length ts) (y .slot)
+    → Keyed ts y (y .slot) → Keyed us y (y .slot)
+keyed-still ts us e y = go (y .slot)
   where
-    go : (r : Found) → SlotBelow (length ts) r → Owned ts y r → Owned us y r
+    go : (r : Found) → SlotBelow (length ts) r → Keyed ts y r → Keyed us y r
     go Nothing l h = tt
     go (At k) l h = h ∙ sym (e k l)
 
@@ -97,11 +97,11 @@ module _ (s : Storage) (x : State) (h : Numbered x) where
       all-snoc (λ z. SlotBelow n (z .slot)) (x .placed) y
       (all-map (λ z. SlotBelow (length (x .slots)) (z .slot)) (λ z. SlotBelow n (z .slot)) (x .placed) (below-more (length (x .slots)) n l) (h .numbers)) b
 
-  owned-snoc : (us : List Opened) (y : Placed) → ((k : ℕ) → k < length (x .slots) → slotAt us k .slot .owner ≡ slotAt (x .slots) k .slot .owner) → Owned us y (y .slot)
-      → AllOwned (x .slots) (x .placed) → AllOwned us (x .placed ++ (y ∷ []))
-  owned-snoc us y e b o =
-      all-snoc (λ z. Owned us z (z .slot)) (x .placed) y
-      (all-map₂ (λ z. SlotBelow (length (x .slots)) (z .slot)) (λ z. Owned (x .slots) z (z .slot)) (λ z. Owned us z (z .slot)) (x .placed) (owned-still (x .slots) us e) (h .numbers) o) b
+  keyed-snoc : (us : List Opened) (y : Placed) → ((k : ℕ) → k < length (x .slots) → slotKey (slotAt us k .slot) ≡ slotKey (slotAt (x .slots) k .slot)) → Keyed us y (y .slot)
+      → AllKeyed (x .slots) (x .placed) → AllKeyed us (x .placed ++ (y ∷ []))
+  keyed-snoc us y e b o =
+      all-snoc (λ z. Keyed us z (z .slot)) (x .placed) y
+      (all-map₂ (λ z. SlotBelow (length (x .slots)) (z .slot)) (λ z. Keyed (x .slots) z (z .slot)) (λ z. Keyed us z (z .slot)) (x .placed) (keyed-still (x .slots) us e) (h .numbers) o) b
 
   module _ (k : ℕ) (l : k < length (x .slots)) where
     abbrev after : List Opened
@@ -136,16 +136,16 @@ module _ (s : Storage) (x : State) (h : Numbered x) where
           numbers = numbers-snoc (length after) member (omega arith) (omega arith);
         }
 
-    -- A slot that is joined keeps its owner, and so does every other.
-    after-owner : (j : ℕ) → slotAt after j .slot .owner ≡ slotAt (x .slots) j .slot .owner
-    after-owner j = go (ℕ-discrete j k)
+    -- A slot that is joined keeps its key, and so does every other.
+    after-key : (j : ℕ) → slotKey (slotAt after j .slot) ≡ slotKey (slotAt (x .slots) j .slot)
+    after-key j = go (ℕ-discrete j k)
       where
-        go : Dec (j ≡ k) → slotAt after j .slot .owner ≡ slotAt (x .slots) j .slot .owner
+        go : Dec (j ≡ k) → slotKey (slotAt after j .slot) ≡ slotKey (slotAt (x .slots) j .slot)
         go (yes e) = rw (e, getD-set-same (x .slots) k (joined (s .id) (slotAt (x .slots) k)) noOpened l) refl
         go (no e) = rw (getD-set-other (x .slots) k j (joined (s .id) (slotAt (x .slots) k)) noOpened e) refl
 
-    pub join-owned : slotAt (x .slots) k .slot .owner ≡ s .owner → AllOwned (x .slots) (x .placed) → AllOwned after (x .placed ++ (member ∷ []))
-    join-owned e = owned-snoc after member (λ j b. after-owner j) (sym e ∙ sym (after-owner k))
+    pub join-keyed : slotKey (slotAt (x .slots) k .slot) ≡ keyOf s → AllKeyed (x .slots) (x .placed) → AllKeyed after (x .placed ++ (member ∷ []))
+    join-keyed e = keyed-snoc after member (λ j b. after-key j) (sym e ∙ sym (after-key k))
 
   module _ (p : Placement) where
     abbrev own : Opened
@@ -189,13 +189,13 @@ module _ (s : Storage) (x : State) (h : Numbered x) where
           numbers = numbers-snoc (length (x .slots ++ (own ∷ []))) first (omega arith) (omega arith);
         }
 
-    pub take-owned : (t : Bool) → AllOwned (x .slots) (x .placed)
-        → AllOwned (pick t (x .slots ++ (own ∷ [])) (x .slots)) (placedAt s p (pick t (At (length (x .slots))) Nothing) (x .placed))
+    pub take-keyed : (t : Bool) → AllKeyed (x .slots) (x .placed)
+        → AllKeyed (pick t (x .slots ++ (own ∷ [])) (x .slots)) (placedAt s p (pick t (At (length (x .slots))) Nothing) (x .placed))
     unfolding pick
-    take-owned false = owned-snoc (x .slots) (record { what = s; spot = p; slot = Nothing }) (λ j b. refl) tt
-    take-owned true =
-        owned-snoc (x .slots ++ (own ∷ [])) first (λ j b. ap (λ (t : Opened). t .slot .owner) (List·getD-append (x .slots) (own ∷ []) noOpened j b))
-        (sym (ap (λ (t : Opened). t .slot .owner) (getD-append-seam (x .slots) own [] noOpened)))
+    take-keyed false = keyed-snoc (x .slots) (record { what = s; spot = p; slot = Nothing }) (λ j b. refl) tt
+    take-keyed true =
+        keyed-snoc (x .slots ++ (own ∷ [])) first (λ j b. ap (λ (t : Opened). slotKey (t .slot)) (List·getD-append (x .slots) (own ∷ []) noOpened j b))
+        (sym (ap (λ (t : Opened). slotKey (t .slot)) (getD-append-seam (x .slots) own [] noOpened)))
 
 -- ---- A step, and the start
 

@@ -1,9 +1,9 @@
--- The slot that code finds is the slot that the storage joins. A slot that suits the storage has members of its owner only, and at least one; its number is left
+-- The slot that code finds is the slot that the storage joins. A slot that suits the storage has members of its key only, and at least one; its number is left
 -- where none meets the storage, and stands in the row of partners where one is its copy; so the walk tests what `fits` tests, slot by slot.
 use mathlib.Core.Path.{_≡_, refl, sym, ap, ap₂, _∙_}
 use mathlib.Core.Bool.{Bool, true, false, not, _&&_}
 use mathlib.Core.List.{List, [], _∷_, map}
-use Prim.Native.Nat.{ℕ, zero, suc, _%_, _≤_, _<_, min, max}
+use Prim.Native.Nat.{ℕ, zero, suc, _≤_, _<_, min, max}
 use native.Mathlib.Omega.{arith}
 use lib.Dec.{eqb}
 use lib.ListN.{length, take, getD, replicate}
@@ -24,21 +24,20 @@ use Rattle.slots.specs.Slots.{noSlot, suits, passes, firstOf}
 use Rattle.slots.proofs.Laws.{first-is, first-none}
 use Rattle.slots.proofs.Marks.{and-false}
 use Rattle.places.specs.Place.{Given, Opened, fits, partners, fitsCopied, firstSlot, orElse, slotFor, Placed, State}
-use Rattle.turns.specs.Held.{slotNumber, inSlot, Owned, Tells, restsOf, anyIn, Marked, Kept, slotIn}
-use Rattle.places.proofs.Tests.{and-l}
-use Rattle.turns.proofs.Joining.{slotAt, FirstSlot, first-slot}
+use Rattle.turns.specs.Held.{slotNumber, inSlot, keyOf, slotKey, Keyed, Tells, keysOf, anyIn, Marked, Kept, slotIn}
+use Rattle.turns.proofs.Joining.{slotAt, FirstSlot, first-slot, suits-key}
 use Rattle.turns.proofs.Numbering.{any-ids}
 use Rattle.turns.proofs.Marking.{none-marked}
 use Rattle.turns.proofs.Noting.{slot-there}
 
--- ---- A test over the placed storages, by their ids, remainders and numbers
+-- ---- A test over the placed storages, by their ids, keys and numbers
 
 -- Only the first n ids and numbers count, and only what the test says of these ids.
-module _ (p q : ℕ → Bool) (b k : ℕ) (rests ids numbers ids′ numbers′ : List ℕ) where
+module _ (p q : ℕ → Bool) (b k : ℕ) (keys ids numbers ids′ numbers′ : List ℕ) where
   any-in-same : (n : ℕ)
       → ((j : ℕ) → j < n
       → (eqb (getD numbers j 0) k and p (getD ids j 0)) ≡ (eqb (getD numbers′ j 0) k and q (getD ids′ j 0)))
-      → anyIn p b k ids rests numbers n ≡ anyIn q b k ids′ rests numbers′ n
+      → anyIn p b k ids keys numbers n ≡ anyIn q b k ids′ keys numbers′ n
   unfolding anyIn
   any-in-same zero same = refl
   any-in-same (suc n) same = rw (same n (omega arith), any-in-same n (λ j l. same j (omega arith)))
@@ -50,50 +49,50 @@ or-swap true false c = refl
 or-swap false b c = refl
 
 -- The walk ends at the first storage, where a test over a list begins.
-module _ (p : ℕ → Bool) (b k id rest number : ℕ) (ids rests numbers : List ℕ) where
+module _ (p : ℕ → Bool) (b k id key number : ℕ) (ids keys numbers : List ℕ) where
   any-in-cons : (n : ℕ)
-      → anyIn p b k (id ∷ ids) (rest ∷ rests) (number ∷ numbers) (suc n) ≡ ((eqb rest b and (eqb number k and p id)) or anyIn p b k ids rests numbers n)
+      → anyIn p b k (id ∷ ids) (key ∷ keys) (number ∷ numbers) (suc n) ≡ ((eqb key b and (eqb number k and p id)) or anyIn p b k ids keys numbers n)
   unfolding anyIn
   any-in-cons zero = refl
   any-in-cons (suc n) =
-      ap (λ (t : Bool). (eqb (getD rests n 0) b and (eqb (getD numbers n 0) k and p (getD ids n 0))) or t) (any-in-cons n)
-      ∙ or-swap (eqb (getD rests n 0) b and (eqb (getD numbers n 0) k and p (getD ids n 0))) (eqb rest b and (eqb number k and p id)) (anyIn p b k ids rests numbers n)
+      ap (λ (t : Bool). (eqb (getD keys n 0) b and (eqb (getD numbers n 0) k and p (getD ids n 0))) or t) (any-in-cons n)
+      ∙ or-swap (eqb (getD keys n 0) b and (eqb (getD numbers n 0) k and p (getD ids n 0))) (eqb key b and (eqb number k and p id)) (anyIn p b k ids keys numbers n)
 
 -- The number of a storage that is in no slot is not k.
 number-is : (k : ℕ) → k < 256 → (r : Found) → eqb (slotNumber r) k ≡ inSlot k r
 number-is k l Nothing = ne-eqb 256 k (omega arith)
 number-is k l (At j) = refl
 
--- A slot of this owner has storages of this owner only, so that a test of the remainder leaves none of them out.
-module _ (p : ℕ → Bool) (ts : List Opened) (owner k : ℕ) (own : slotAt ts k .slot .owner ≡ owner) where
-  own-only : (y : Placed) (b : Bool) (r : Found) → Owned ts y r → (eqb (y .what .owner % 256) (owner % 256) and (inSlot k r and b)) ≡ (inSlot k r and b)
+-- A slot of this key has storages of this key only, so that a test of the key leaves none of them out.
+module _ (p : ℕ → Bool) (ts : List Opened) (key k : ℕ) (own : slotKey (slotAt ts k .slot) ≡ key) where
+  own-only : (y : Placed) (b : Bool) (r : Found) → Keyed ts y r → (eqb (keyOf (y .what)) key and (inSlot k r and b)) ≡ (inSlot k r and b)
   unfolding pick
-  own-only y b Nothing h = and-false (eqb (y .what .owner % 256) (owner % 256))
+  own-only y b Nothing h = and-false (eqb (keyOf (y .what)) key)
   own-only y b (At j) h = go (eqb j k) refl
     where
-      go : (t : Bool) → eqb j k ≡ t → (eqb (y .what .owner % 256) (owner % 256) and (t and b)) ≡ (t and b)
-      go false e = and-false (eqb (y .what .owner % 256) (owner % 256))
+      go : (t : Bool) → eqb j k ≡ t → (eqb (keyOf (y .what)) key and (t and b)) ≡ (t and b)
+      go false e = and-false (eqb (keyOf (y .what)) key)
       go true e =
-          let same = h ∙ ap (λ (n : ℕ). slotAt ts n .slot .owner) (eqb-true j k e) ∙ own in
-          pick-yes (eqb (y .what .owner % 256) (owner % 256)) b false (eq-eqb (y .what .owner % 256) (owner % 256) (ap (λ (o : ℕ). o % 256) same))
+          let same = h ∙ ap (λ (n : ℕ). slotKey (slotAt ts n .slot)) (eqb-true j k e) ∙ own in
+          pick-yes (eqb (keyOf (y .what)) key) b false (eq-eqb (keyOf (y .what)) key same)
 
-  any-in-map : k < 256 → (ys : List Placed) → All (λ (y : Placed). Owned ts y (y .slot)) ys
-      → anyIn p (owner % 256) k (map (λ (y : Placed). y .what .id) ys) (restsOf ys) (map (λ (y : Placed). slotNumber (y .slot)) ys) (length ys)
+  any-in-map : k < 256 → (ys : List Placed) → All (λ (y : Placed). Keyed ts y (y .slot)) ys
+      → anyIn p key k (map (λ (y : Placed). y .what .id) ys) (keysOf ys) (map (λ (y : Placed). slotNumber (y .slot)) ys) (length ys)
       ≡ any (λ y. inSlot k (y .slot) and p (y .what .id)) ys
   unfolding anyIn any
   any-in-map l [] h = refl
   any-in-map l (y ∷ ys) h =
-      any-in-cons p (owner % 256) k (y .what .id) (y .what .owner % 256) (slotNumber (y .slot)) (map (λ (z : Placed). z .what .id) ys) (restsOf ys)
+      any-in-cons p key k (y .what .id) (keyOf (y .what)) (slotNumber (y .slot)) (map (λ (z : Placed). z .what .id) ys) (keysOf ys)
       (map (λ (z : Placed). slotNumber (z .slot)) ys) (length ys)
       ∙ rw (number-is k l (y .slot), own-only y (p (y .what .id)) (y .slot) (h .0), any-in-map l ys (h .1))
 
 module _ (x : State) (list : List Slot) (n : ℕ) (ids kin numbers : List ℕ) (i : ℕ) (kept : Kept x list n ids kin numbers i) where
-  -- Over the ids, remainders and numbers, a test is one over the members of a slot of the owner.
-  any-members : (p q : ℕ → Bool) (owner k : ℕ) → ((j : ℕ) → j < 256 → p j ≡ q j) → k < length (x .slots) → k < 256 → slotAt (x .slots) k .slot .owner ≡ owner
-      → anyIn p (owner % 256) k ids (restsOf (x .placed)) numbers i ≡ any q (slotAt (x .slots) k .members)
-  any-members p q owner k same b l own =
-      any-in-same p q (owner % 256) k (restsOf (x .placed)) ids numbers (take i ids) (take i numbers) i each
-      ∙ rw (kept .ids-are, kept .numbers-are, kept .count) (any-in-map q (x .slots) owner k own l (x .placed) (kept .owned))
+  -- Over the ids, keys and numbers, a test is one over the members of a slot of the key.
+  any-members : (p q : ℕ → Bool) (key k : ℕ) → ((j : ℕ) → j < 256 → p j ≡ q j) → k < length (x .slots) → k < 256 → slotKey (slotAt (x .slots) k .slot) ≡ key
+      → anyIn p key k ids (keysOf (x .placed)) numbers i ≡ any q (slotAt (x .slots) k .members)
+  any-members p q key k same b l own =
+      any-in-same p q key k (keysOf (x .placed)) ids numbers (take i ids) (take i numbers) i each
+      ∙ rw (kept .ids-are, kept .numbers-are, kept .count) (any-in-map q (x .slots) key k own l (x .placed) (kept .keyed))
       ∙ sym (any-ids q k (x .placed)) ∙ sym (ap (any q) (kept .numbered .members k b))
     where
       each : (j : ℕ) → j < i
@@ -127,10 +126,6 @@ and-where : (a b c : Bool) → (a ≡ true → b ≡ c) → (a and b) ≡ (a and
 unfolding pick
 and-where true b c h = h refl
 and-where false b c h = refl
-
-suits-owner : (s : Storage) (t : Slot) → suits s t ≡ true → t .owner ≡ s .owner
-unfolding suits
-suits-owner s t e = eqb-true (t .owner) (s .owner) (T-true _ (and-l _ _ (T-yes e)))
 
 -- An empty row holds no number; where no number stands in both rows, no slot passes.
 unmarked : (r : List ℕ) → not (sameRow r (replicate 4 0)) ≡ false → (j : ℕ) → memberAt r 0 j ≡ false
@@ -168,8 +163,11 @@ any-some (j ∷ l) h = refl
 
 module _ (g : Given) (s : Storage) (x : State) (list : List Slot) (n : ℕ) (ids kin numbers : List ℕ) (i : ℕ) (graph copies : List ℕ) (tells : Tells g graph copies)
     (kept : Kept x list n ids kin numbers i) where
-  module _ (seen barred partnered free : List ℕ) (marked : Marked graph copies (s .id) (s .owner % 256) ids (restsOf (x .placed)) numbers i seen barred partnered)
+  module _ (seen barred partnered free : List ℕ) (key : ℕ) (is : key ≡ keyOf s) (marked : Marked graph copies (s .id) key ids (keysOf (x .placed)) numbers i seen barred partnered)
       (left : free ≡ put seen 0 (lessRow (row seen 0 4) (row barred 0 4))) (own : s .id < 256) (most : n ≤ 256) where
+    key-there : (k : ℕ) → suits s (slotAt (x .slots) k .slot) ≡ true → slotKey (slotAt (x .slots) k .slot) ≡ key
+    key-there k e = suits-key s (slotAt (x .slots) k .slot) (T-yes e) ∙ sym is
+
     -- A slot that suits the storage is seen, by the storage that opened it; so it is left where no member meets the storage.
     free-is : (k : ℕ) → k < n → suits s (slotAt (x .slots) k .slot) ≡ true
         → memberAt free 0 k ≡ not (any (g .meets (s .id)) (slotAt (x .slots) k .members))
@@ -178,10 +176,10 @@ module _ (g : Given) (s : Storage) (x : State) (list : List Slot) (n : ℕ) (ids
         let b : k < length (x .slots) = omega (arith, kept .many) in
         left-is seen barred free (marked .seen-four) (marked .barred-four) left k
         ∙ ap₂ (λ (a c : Bool). a && not c)
-        (marked .seen-are k h ∙ any-members x list n ids kin numbers i kept _ (λ j. true) (s .owner) k (λ j c. refl) b h (suits-owner s _ e)
+        (marked .seen-are k h ∙ any-members x list n ids kin numbers i kept _ (λ j. true) key k (λ j c. refl) b h (key-there k e)
         ∙ any-some _ (kept .numbered .filled k b))
         (marked .barred-are k h
-        ∙ any-members x list n ids kin numbers i kept _ (g .meets (s .id)) (s .owner) k (λ j c. tells .meeting (s .id) j own c) b h (suits-owner s _ e))
+        ∙ any-members x list n ids kin numbers i kept _ (g .meets (s .id)) key k (λ j c. tells .meeting (s .id) j own c) b h (key-there k e))
 
     partners-is : (k : ℕ) → k < n → suits s (slotAt (x .slots) k .slot) ≡ true → memberAt partnered 0 k ≡ partners g s (slotAt (x .slots) k)
     unfolding partners
@@ -189,8 +187,8 @@ module _ (g : Given) (s : Storage) (x : State) (list : List Slot) (n : ℕ) (ids
         let h : k < 256 = omega arith in
         let b : k < length (x .slots) = omega (arith, kept .many) in
         marked .partners-are k h
-        ∙ any-members x list n ids kin numbers i kept _ (λ m. g .copies (min (s .id) m) (max (s .id) m)) (s .owner) k
-        (λ j c. tells .copying (min (s .id) j) (max (s .id) j) (omega arith) (omega arith)) b h (suits-owner s _ e)
+        ∙ any-members x list n ids kin numbers i kept _ (λ m. g .copies (min (s .id) m) (max (s .id) m)) key k
+        (λ j c. tells .copying (min (s .id) j) (max (s .id) j) (omega arith) (omega arith)) b h (key-there k e)
 
     passes-fits : (k : ℕ) → k < n → passes s free free k (getD list k noSlot) ≡ fits g s (slotAt (x .slots) k)
     unfolding passes fits

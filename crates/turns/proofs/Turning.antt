@@ -15,9 +15,10 @@ use Rattle.places.specs.declared.choose.Chosen.{Chosen}
 use Rattle.places.specs.declared.choose.Chosen.the-variants.{Spot}
 use Rattle.places.specs.Memory.{Maps}
 use Rattle.places.specs.Legal.{Inside, FixedSmall}
-use Rattle.places.specs.Place.{Given, choose, State, done, takeRoom, joinSlot, stepBy, slotFor, step}
-use Rattle.turns.specs.Held.{slotIn}
-use Rattle.turns.proofs.Joining.{slotAt, SlotFor, slot-for, fits-out}
+use Rattle.places.specs.Place.{Given, fits, choose, State, done, takeRoom, joinSlot, stepBy, slotFor, step}
+use Rattle.turns.specs.Held.{keyOf, slotKey, slotIn}
+use Rattle.turns.proofs.Joining.{slotAt, SlotFor, slot-for, suits-key}
+use Rattle.places.proofs.Tests.{and-l}
 use Rattle.places.proofs.Choosing.{Good, choose-inside}
 
 -- ---- A place of its own
@@ -48,11 +49,12 @@ module _ (g : Given) (s : Storage) (x : State) (n k : ℕ) (many : n ≡ length 
       go (At j) q = ap (λ (m : ℕ). done (joinSlot s x m)) (sym q)
       go Nothing q = absurd (omega arith)
 
-  pub joins-owner : k < n → slotAt (x .slots) k .slot .owner ≡ s .owner
-  joins-owner l = go (slotFor g s (x .slots)) (slot-for g s (x .slots)) e
+  pub joins-key : k < n → slotKey (slotAt (x .slots) k .slot) ≡ keyOf s
+  unfolding fits
+  joins-key l = go (slotFor g s (x .slots)) (slot-for g s (x .slots)) e
     where
-      go : (r : Found) → SlotFor g s (x .slots) r → k ≡ slotIn n r → slotAt (x .slots) k .slot .owner ≡ s .owner
-      go (At j) b q = subst (λ (m : ℕ). slotAt (x .slots) m .slot .owner ≡ s .owner) (sym q) (fits-out g s (slotAt (x .slots) j) (b .2) .owners)
+      go : (r : Found) → SlotFor g s (x .slots) r → k ≡ slotIn n r → slotKey (slotAt (x .slots) k .slot) ≡ keyOf s
+      go (At j) b q = subst (λ (m : ℕ). slotKey (slotAt (x .slots) m .slot) ≡ keyOf s) (sym q) (suits-key s (slotAt (x .slots) j .slot) (and-l _ _ (b .2)))
       go Nothing b q = absurd (omega arith)
 
   pub stands-alone : n ≤ k → step g s x ≡ takeRoom s x (choose g s (x .maps))

@@ -1,5 +1,5 @@
 -- What the placer holds while it goes through the storages, against the state that `places` defines: maps and slots as they are, of each placed storage its id,
--- its slot's number and a link to the one before it whose owner has the same remainder by 256, and the result records so far.
+-- its slot's number and a link to the one before it of the same key, and the result records so far.
 use mathlib.Core.Path.{_≡_}
 use mathlib.Core.Bool.{Bool, true, false}
 use mathlib.Core.List.{List, [], _∷_, map}
@@ -43,39 +43,48 @@ pub record Numbered (x : P.State) : Type 0 where
   pub filled : (k : ℕ) → k < length (x .slots) → 0 < length (getD (x .slots) k P.noOpened .members)
   pub numbers : All (λ (y : P.Placed). SlotBelow (length (x .slots)) (y .slot)) (x .placed)
 
--- A storage in a slot has the slot's owner.
-abbrev pub Owned : List P.Opened → P.Placed → Found → Type 0
-Owned ts y Nothing = Unit {0}
-Owned ts y (At k) = y .what .owner ≡ getD ts k P.noOpened .slot .owner
+-- Owner, kind and length make a key. There are so few keys that there is an entry for each.
+unfoldable pub keyBy : ℕ → ℕ → ℕ → ℕ
+keyBy owner kind len = (owner + kind * 64 + len * 8) % 256
+
+abbrev pub keyOf : Storage → ℕ
+keyOf s = keyBy (s .owner) (s .kind) (s .len)
+
+abbrev pub slotKey : Slot → ℕ
+slotKey t = keyBy (t .owner) (t .kind) (t .len)
+
+-- A storage in a slot has the slot's key.
+abbrev pub Keyed : List P.Opened → P.Placed → Found → Type 0
+Keyed ts y Nothing = Unit {0}
+Keyed ts y (At k) = keyOf (y .what) ≡ slotKey (getD ts k P.noOpened .slot)
 
 -- Graph and copies in their rows tell what placing is given, for ids below 256.
 pub record Tells (g : P.Given) (graph copies : List ℕ) : Type 0 where
   pub meeting : (i j : ℕ) → i < 256 → j < 256 → memberAt graph (i * 4) j ≡ g .meets i j
   pub copying : (i j : ℕ) → i < 256 → j < 256 → memberAt copies (i * 4) j ≡ g .copies i j
 
--- The owners' remainders by 256: so few that there is an entry for each.
-abbrev pub restsOf : List P.Placed → List ℕ
-restsOf ys = map (λ (y : P.Placed). y .what .owner % 256) ys
+abbrev pub keysOf : List P.Placed → List ℕ
+keysOf ys = map (λ (y : P.Placed). keyOf (y .what)) ys
 
--- The first i placed storages are linked by remainder: `kin` has the entries of the storages, and from 256 on those of the remainders.
+-- The first i placed storages are linked by their keys: `kin` has the entries of the storages, and from 256 on those of the keys.
 abbrev pub KinLinked : List ℕ → List ℕ → ℕ → Type 0
-KinLinked rests kin i = Linked rests (drop 256 kin) kin i
+KinLinked keys kin i = Linked keys (drop 256 kin) kin i
 
--- The links with the i-th storage, of remainder b: it leads to the one that was the last, and is the last itself.
+-- The links with the i-th storage, of key b: it leads to the one that was the last, and is the last itself.
 abbrev pub linkedAt : List ℕ → ℕ → ℕ → List ℕ
 linkedAt kin i b = set (set kin i (getD kin (256 + b) 0)) (256 + b) (i + 1)
 
--- Of the first n placed storages, one has the remainder b, is in slot k and passes a test of its id.
+-- Of the first n placed storages, one has the key b, is in slot k and passes a test of its id.
 unfoldable pub anyIn : (ℕ → Bool) → ℕ → ℕ → List ℕ → List ℕ → List ℕ → ℕ → Bool
-anyIn p b k ids rests numbers zero = false
-anyIn p b k ids rests numbers (suc n) =
-    (eqb (getD rests n 0) b and (eqb (getD numbers n 0) k and p (getD ids n 0))) or anyIn p b k ids rests numbers n
+anyIn p b k ids keys numbers zero = false
+anyIn p b k ids keys numbers (suc n) =
+    (eqb (getD keys n 0) b and (eqb (getD numbers n 0) k and p (getD ids n 0))) or anyIn p b k ids keys numbers n
 
--- The rows of slots, once the placed storages of a remainder are gone through: with a member; with one that storage `id` meets; with a copy partner of it.
-pub record Marked (graph copies : List ℕ) (id b : ℕ) (ids rests numbers : List ℕ) (n : ℕ) (seen barred partners : List ℕ) : Type 0 where
-  pub seen-are : (k : ℕ) → k < 256 → memberAt seen 0 k ≡ anyIn (λ j. true) b k ids rests numbers n
-  pub barred-are : (k : ℕ) → k < 256 → memberAt barred 0 k ≡ anyIn (λ j. memberAt graph (id * 4) j) b k ids rests numbers n
-  pub partners-are : (k : ℕ) → k < 256 → memberAt partners 0 k ≡ anyIn (λ j. memberAt copies (min id j * 4) (max id j)) b k ids rests numbers n
+-- The rows of slots, once the placed storages of a key are gone through: with a member; with one that storage `id` meets; with a copy partner of it.
+pub record Marked (graph copies : List ℕ) (id b : ℕ) (ids keys numbers : List ℕ) (n : ℕ) (seen barred partners : List ℕ) : Type 0 where
+  pub seen-are : (k : ℕ) → k < 256 → memberAt seen 0 k ≡ anyIn (λ j. true) b k ids keys numbers n
+  pub barred-are : (k : ℕ) → k < 256 → memberAt barred 0 k ≡ anyIn (λ j. memberAt graph (id * 4) j) b k ids keys numbers n
+  pub partners-are : (k : ℕ) → k < 256 → memberAt partners 0 k ≡ anyIn (λ j. memberAt copies (min id j * 4) (max id j)) b k ids keys numbers n
   pub seen-four : length seen ≡ 4
   pub barred-four : length barred ≡ 4
   pub partners-four : length partners ≡ 4
@@ -86,10 +95,10 @@ pub record Kept (x : P.State) (list : List Slot) (n : ℕ) (ids kin numbers : Li
   pub slots-are : take n list ≡ map (λ (t : P.Opened). t .slot) (x .slots)
   pub count : i ≡ length (x .placed)
   pub ids-are : take i ids ≡ map (λ (y : P.Placed). y .what .id) (x .placed)
-  pub linked : KinLinked (restsOf (x .placed)) kin i
+  pub linked : KinLinked (keysOf (x .placed)) kin i
   pub numbers-are : take i numbers ≡ map (λ (y : P.Placed). slotNumber (y .slot)) (x .placed)
   pub numbered : Numbered x
-  pub owned : All (λ (y : P.Placed). Owned (x .slots) y (y .slot)) (x .placed)
+  pub keyed : All (λ (y : P.Placed). Keyed (x .slots) y (y .slot)) (x .placed)
   pub low : (j : ℕ) → j < i → getD ids j 0 < 256
   pub few : n ≤ i
 

@@ -1,19 +1,26 @@
-// Which slots a storage may join: those of its owner without a member that it interferes with; and among them those with a copy partner.
+// Which slots a storage may join: those of its owner, kind and length without a member that it interferes with; and among them those with a copy partner.
 ghost use mathlib.Core.Path.{_≡_};
 ghost use mathlib.Core.Bool.{not};
 ghost use mathlib.Core.List.{List};
-ghost use Prim.Native.Nat.{ℕ, _*_, _%_, _≤_, _<_, min, max};
+ghost use Prim.Native.Nat.{ℕ, _*_, _≤_, _<_, min, max};
 ghost use lib.Dec.{ltb};
 ghost use lib.ListN.{length, getD, replicate};
 ghost use Rattle.rows.specs.Row.{memberAt, withAt, sameRow};
 ghost use Rattle.fields.specs.Pick.{pick, _and_};
 ghost use Rattle.slots.specs.Slots.{slotsIn};
 ghost use Rattle.places.specs.Place.{Given, State, slotFor};
-ghost use Rattle.turns.specs.Held.{Tells, KinLinked, Marked, Kept, slotIn};
+ghost use Rattle.turns.specs.Held.{keyOf, Tells, KinLinked, Marked, Kept, slotIn};
 use slots::Page;
 use slots::search;
 use storages::Storage;
 use storages::tries_slots;
+
+// Storages that may share a slot have one key, since they have one owner, kind and length.
+pub fn key_of(s: Storage) -> usize
+    ensures { λ r. ⌜ (r ≡ keyOf s) × (r < 256) ⌝ }
+{
+    ((s.owner as usize) + (s.kind as usize) * 64 + (s.len as usize) * 8) % 256
+}
 
 // Were two storages copied into one another? The pair stands in the smaller id's row.
 fn is_copied(copies: &[u64], i: usize, j: usize) -> bool
@@ -54,12 +61,12 @@ fn mark_one(
     }
 }
 
-// All placed storages whose owner has this one's remainder by 256, the last first; `ids` has the ids, `numbers` the slots, `kin` the links. A slot that a storage may join has members of its owner only, one at least; another owner's slot does not suit it, marked or not. At first the rows are empty.
+// All placed storages of this one's key, the last first; `ids` has the ids, `numbers` the slots, `kin` the links. A slot that a storage may join has members of its key only, one at least; a slot of another owner, kind or length does not suit it, marked or not. At first the rows are empty.
 fn mark(
     graph: &[u64],
     copies: &[u64],
     id: usize,
-    owner: u16,
+    key: usize,
     ids: &[u16],
     kin: &[u16],
     numbers: &[u16],
@@ -68,13 +75,13 @@ fn mark(
     barred: &mut [u64],
     partners: &mut [u64],
 )
-    requires { ⌜ (length (now graph) ≡ 1024) × (length (now copies) ≡ 1024) × (id < 256) × (length (now ids) ≡ 256) × (length (now kin) ≡ 512) × (length (now numbers) ≡ 256) × (count ≤ 256)
+    requires { ⌜ (length (now graph) ≡ 1024) × (length (now copies) ≡ 1024) × (id < 256) × (key < 256) × (length (now ids) ≡ 256) × (length (now kin) ≡ 512) × (length (now numbers) ≡ 256) × (count ≤ 256)
         × ((j : ℕ) → j < count → getD (now ids) j 0 < 256)
-        × (now seen ≡ replicate 4 0) × (now barred ≡ replicate 4 0) × (now partners ≡ replicate 4 0) × ((rests : List ℕ) × KinLinked rests (now kin) count) ⌝ }
-    ensures { λ _. ⌜ ((rests : List ℕ) → KinLinked rests (now (kin .entry)) count
-        → Marked (now (graph .entry)) (now (copies .entry)) id (owner % 256) (now (ids .entry)) rests (now (numbers .entry)) count (now (seen .exit)) (now (barred .exit)) (now (partners .exit))) ⌝ }
+        × (now seen ≡ replicate 4 0) × (now barred ≡ replicate 4 0) × (now partners ≡ replicate 4 0) × ((keys : List ℕ) × KinLinked keys (now kin) count) ⌝ }
+    ensures { λ _. ⌜ ((keys : List ℕ) → KinLinked keys (now (kin .entry)) count
+        → Marked (now (graph .entry)) (now (copies .entry)) id key (now (ids .entry)) keys (now (numbers .entry)) count (now (seen .exit)) (now (barred .exit)) (now (partners .exit))) ⌝ }
 {
-    let mut next = kin[256 + (owner % 256) as usize] as usize;
+    let mut next = kin[256 + key] as usize;
     while 0 < next {
         let i = next - 1;
         mark_one(
@@ -121,7 +128,7 @@ pub fn slot_for(
     count: usize,
 ) -> usize
     requires { ⌜ (n ≤ 256) × (s .id < 256) × (length (now graph) ≡ 1024) × (length (now copies) ≡ 1024) × (length (now ids) ≡ 256) × (length (now kin) ≡ 512) × (length (now numbers) ≡ 256) × (count ≤ 256)
-        × ((j : ℕ) → j < count → getD (now ids) j 0 < 256) × ((rests : List ℕ) × KinLinked rests (now kin) count) ⌝ }
+        × ((j : ℕ) → j < count → getD (now ids) j 0 < 256) × ((keys : List ℕ) × KinLinked keys (now kin) count) ⌝ }
     ensures { λ r. ⌜ ((g : Given) (x : State) → Tells g (now (graph .entry)) (now (copies .entry)) → Kept x (slotsIn list) n (now (ids .entry)) (now (kin .entry)) (now (numbers .entry)) count
         → r ≡ slotIn n (slotFor g s (x .slots))) ⌝ }
 {
@@ -135,7 +142,7 @@ pub fn slot_for(
         graph,
         copies,
         s.id as usize,
-        s.owner,
+        key_of(s),
         ids,
         kin,
         numbers,

@@ -10,7 +10,8 @@ ghost use Rattle.slots.specs.Slots.{slotsIn};
 ghost use Rattle.places.specs.Memory.{Solid};
 ghost use Rattle.places.specs.Legal.{FixedSmall};
 ghost use Rattle.places.specs.Place.{Given, State, recordAt, choose, takeRoom, step};
-ghost use Rattle.turns.specs.Held.{Tells, linkedAt, Held, listAfter, countAfter, TurnedBy};
+ghost use Rattle.turns.specs.Held.{keyOf, Tells, linkedAt, Held, listAfter, countAfter, TurnedBy};
+use crate::marks::key_of;
 use crate::marks::slot_for;
 use places::choose::Chosen;
 use places::choose::choose;
@@ -56,12 +57,12 @@ fn put_record(out: &mut [u8], at: usize, id: u16, p: Placement)
     put_u16(out, at + 6, b_of(p));
 }
 
-// The i-th storage leads to the last one before it whose owner has the same remainder, and is the last from now on.
-fn link(kin: &mut [u16], i: usize, owner: u16)
-    requires { ⌜ (i < 256) × (length (now kin) ≡ 512) ⌝ }
-    ensures { λ _. ⌜ now (kin .exit) ≡ linkedAt (now (kin .entry)) i (owner % 256) ⌝ }
+// The i-th storage leads to the last one before it of the same key, and is the last from now on.
+fn link(kin: &mut [u16], i: usize, key: usize)
+    requires { ⌜ (i < 256) × (key < 256) × (length (now kin) ≡ 512) ⌝ }
+    ensures { λ _. ⌜ now (kin .exit) ≡ linkedAt (now (kin .entry)) i key ⌝ }
 {
-    let b = 256 + (owner % 256) as usize;
+    let b = 256 + key;
     kin[i] = kin[b];
     kin[b] = (i + 1) as u16;
 }
@@ -78,11 +79,11 @@ fn note(
     p: Placement,
 )
     requires { ⌜ (i < 256) × (number ≤ 256) × (length (now ids) ≡ 256) × (length (now kin) ≡ 512) × (length (now numbers) ≡ 256) × (length (now out) ≡ 2048) ⌝ }
-    ensures { λ _. ⌜ (now (ids .exit) ≡ set (now (ids .entry)) i (s .id)) × (now (kin .exit) ≡ linkedAt (now (kin .entry)) i (s .owner % 256))
+    ensures { λ _. ⌜ (now (ids .exit) ≡ set (now (ids .entry)) i (s .id)) × (now (kin .exit) ≡ linkedAt (now (kin .entry)) i (keyOf s))
         × (now (numbers .exit) ≡ set (now (numbers .entry)) i number) × (now (out .exit) ≡ W.put (now (out .entry)) (i * 8) (recordAt (s .id) p)) ⌝ }
 {
     ids[i] = s.id;
-    link(kin, i, s.owner);
+    link(kin, i, key_of(s));
     numbers[i] = number as u16;
     put_record(out, i * 8, s.id, p);
 }

@@ -18,6 +18,9 @@ returns c = λ g x t k. seek-none g _ x _ _ _ _ _ _ _ _ t k (sym (c .before .tri
 cast-mark : tie.Need-cast-mark
 cast-mark c = search needs
 
+key-of-requires : tie.Need-key-of-requires
+key-of-requires c κs = search needs
+
 slice-aggregate-mark : tie.Need-slice-aggregate-mark
 slice-aggregate-mark c = search needs
 
@@ -29,8 +32,8 @@ slice-aggregate-mark-3 c = search needs
 
 mark-requires : tie.Need-mark-requires
 mark-requires c κs =
-    let p = c .before .before .before .before .before .before .before .before .before .before .before .pre in
-    (p .2, p .3, p .1, p .4, p .5, p .6, p .7, p .8, search needs, search needs, search needs, p .9)
+    let p = c .before .before .before .before .before .before .before .before .before .before .before .before .pre in
+    (p .2, p .3, p .1, c .before .before .before .key-of .ensures .1, p .4, p .5, p .6, p .7, p .8, search needs, search needs, search needs, p .9)
 
 slice-aggregate-less-from : tie.Need-slice-aggregate-less-from
 slice-aggregate-less-from c = search needs
@@ -52,11 +55,12 @@ returns-2 c =
     let a = c .before in
     let l = a .before .before .before in
     let m = l .before .before .before .before .before .before in
-    let e = m .before .before .before .before .before in
+    let k = m .before .before .before .before in
+    let e = k .before .before in
     let start = e .before .before .before .before .before .before .before in
     let shares = sym (e .before .tries-slots .ensures) ∙ not-false _ (e .if1 .left) in
-    λ g x t k.
-    seek-closed g _ x _ _ _ _ _ _ _ _ t k _ _ _ _ (m .mark .ensures _ (k .linked)) (l .less-from .ensures) (start .pre .1) (start .pre .0) shares
+    λ g x t h.
+    seek-closed g _ x _ _ _ _ _ _ _ _ t h _ _ _ _ _ (k .key-of .ensures .0) (m .mark .ensures _ (h .linked)) (l .less-from .ensures) (start .pre .1) (start .pre .0) shares
     (sym (a .any-marked .ensures) ∙ not-true _ (c .if2 .taken))
 
 slice-aggregate-any-marked-2 : tie.Need-slice-aggregate-any-marked-2
@@ -72,18 +76,19 @@ slice-aggregate-search-2 : tie.Need-slice-aggregate-search-2
 slice-aggregate-search-2 c = search needs
 
 search-requires : tie.Need-search-requires
-search-requires c κs = let p = c .before .before .before .before .before .before .before .before .before .before .before .before .before .before .before .before .before .before .before .before .before .before .before .before .before .before .before .pre in (p .0, search needs, search needs)
+search-requires c κs = let p = c .before .before .before .before .before .before .before .before .before .before .before .before .before .before .before .before .before .before .before .before .before .before .before .before .before .before .before .before .pre in (p .0, search needs, search needs)
 
 returns-3 : tie.Need-returns-3
 returns-3 c =
     let f = c .before in
     let l = f .before .before .before .before .before .before .before .before .before .before in
     let m = l .before .before .before .before .before .before in
-    let e = m .before .before .before .before .before in
+    let k = m .before .before .before .before in
+    let e = k .before .before in
     let start = e .before .before .before .before .before .before .before in
     let shares = sym (e .before .tries-slots .ensures) ∙ not-false _ (e .if1 .left) in
-    λ g x t k.
-    seek-copied g _ x _ _ _ _ _ _ _ _ t k _ _ _ _ (m .mark .ensures _ (k .linked)) (l .less-from .ensures) (start .pre .1) (start .pre .0) _ shares (f .search .ensures)
+    λ g x t h.
+    seek-copied g _ x _ _ _ _ _ _ _ _ t h _ _ _ _ _ (k .key-of .ensures .0) (m .mark .ensures _ (h .linked)) (l .less-from .ensures) (start .pre .1) (start .pre .0) _ shares (f .search .ensures)
     (c .if4 .taken)
 
 slice-aggregate-search-3 : tie.Need-slice-aggregate-search-3
@@ -93,7 +98,7 @@ slice-aggregate-search-4 : tie.Need-slice-aggregate-search-4
 slice-aggregate-search-4 c = search needs
 
 search-requires-2 : tie.Need-search-requires-2
-search-requires-2 c κs = let p = c .before .before .before .before .before .before .before .before .before .before .before .before .before .before .before .before .before .before .before .before .before .before .before .before .before .before .before .pre in (p .0, search needs, search needs)
+search-requires-2 c κs = let p = c .before .before .before .before .before .before .before .before .before .before .before .before .before .before .before .before .before .before .before .before .before .before .before .before .before .before .before .before .pre in (p .0, search needs, search needs)
 
 returns-4 : tie.Need-returns-4
 returns-4 c =
@@ -101,11 +106,12 @@ returns-4 c =
     let a = o .before in
     let l = a .before .before .before .before .before .before in
     let m = l .before .before .before .before .before .before in
-    let e = m .before .before .before .before .before in
+    let k = m .before .before .before .before in
+    let e = k .before .before in
     let start = e .before .before .before .before .before .before .before in
     let shares = sym (e .before .tries-slots .ensures) ∙ not-false _ (e .if1 .left) in
-    λ g x t k.
-    let fitting = seek-fitting g _ x _ _ _ _ _ _ _ _ t k _ _ _ _ (m .mark .ensures _ (k .linked)) (l .less-from .ensures) (start .pre .1) (start .pre .0) in
+    λ g x t h.
+    let fitting = seek-fitting g _ x _ _ _ _ _ _ _ _ t h _ _ _ _ _ (k .key-of .ensures .0) (m .mark .ensures _ (h .linked)) (l .less-from .ensures) (start .pre .1) (start .pre .0) in
     ⊎-elim (λ w. fitting _ shares (w .3 .ensures) (w .4 .left) _ (c .search2 .ensures))
     (λ w. fitting _ shares (unmarked-none _ _ _ _ _ (sym (a .any-marked2 .ensures) ∙ w .left)) (omega arith) _ (c .search2 .ensures))
     (o .if3 .came)
@@ -117,6 +123,7 @@ slot-for-spec =
     tries-slots-requires
     returns
     cast-mark
+    key-of-requires
     slice-aggregate-mark
     slice-aggregate-mark-2
     slice-aggregate-mark-3

@@ -6,9 +6,6 @@ use borrow.Author.Needs.{needs}
 use Rattle.turns.proofs.turn.link.Statement.{statement}
 use Rattle.turns.proofs.turn.link.Tie as tie
 
-cast-b : tie.Need-cast-b
-cast-b c = search needs
-
 add-b : tie.Need-add-b
 add-b c = search needs
 
@@ -46,7 +43,6 @@ pub link-spec : {M : Type 1} → statement M
 link-spec =
     tie.close
     (tie.spec
-    cast-b
     add-b
     mul-kin
     slice-read-kin

@@ -7,7 +7,7 @@ use Rattle.slots.specs.Slots.{slotsIn}
 use Rattle.slots.proofs.Pages.{full-array, slots-length}
 use Rattle.places.specs.Place.{joinSlot}
 use Rattle.turns.proofs.Noting.{joined-held}
-use Rattle.turns.proofs.Turning.{joins, joins-owner, stands-alone}
+use Rattle.turns.proofs.Turning.{joins, joins-key, stands-alone}
 use borrow.Author.Needs.{needs}
 use Rattle.turns.proofs.turn.place_one.Statement.{statement}
 use Rattle.turns.proofs.turn.place_one.Tie as tie
@@ -50,7 +50,7 @@ returns c =
       joins g (a .args .s) x _ _ (h .kept .many) (f .slot-for .ensures g x t (h .kept)) (j .if1 .taken),
       joined-held (a .args .s) x _ _ _ _ _ _ _ _ _ h (a .pre .2) (a .pre .3) (a .pre .4) (a .pre .8) (a .pre .9) _ _ _ _ _ _
           (n .note .ensures .0) (n .note .ensures .1) (n .note .ensures .2) (n .note .ensures .3) (j .if1 .taken)
-          (joins-owner g (a .args .s) x _ _ (h .kept .many) (f .slot-for .ensures g x t (h .kept)) (j .if1 .taken)) (n .before .placement-at .ensures),
+          (joins-key g (a .args .s) x _ _ (h .kept .many) (f .slot-for .ensures g x t (h .kept)) (j .if1 .taken)) (n .before .placement-at .ensures),
     )
 
 take-own-requires : tie.Need-take-own-requires
