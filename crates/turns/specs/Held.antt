@@ -63,6 +63,7 @@ pub record Tells (g : P.Given) (graph copies : List ℕ) : Type 0 where
   pub meeting : (i j : ℕ) → i < 256 → j < 256 → memberAt graph (i * 4) j ≡ g .meets i j
   pub copying : (i j : ℕ) → i < 256 → j < 256 → memberAt copies (i * 4) j ≡ g .copies i j
 
+-- The keys of the placed storages, in file order.
 abbrev pub keysOf : List P.Placed → List ℕ
 keysOf ys = map (λ (y : P.Placed). keyOf (y .what)) ys
 
