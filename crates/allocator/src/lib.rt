@@ -1,5 +1,7 @@
 // The placer: where each storage of a file lies.
 // Knows the graph, the maps, the slots and the turn of one storage by their promises; gives the placement of every storage, or the first refusal.
+#![tactic(auto)]
+
 mod all;
 
 ghost use Rattle.std.specs.Prelude.{◌≡◌, length};

@@ -1,6 +1,8 @@
 // Exported functions, for programs in Rust or C that link the library.
 // Knows the public operations; gives each on numbers and buffers, with the answer in one number: what was found, or 2^32 times a refusal's number, and
 // its value.
+#![tactic(auto)]
+
 ghost use Rattle.std.specs.Prelude.{◌≡◌};
 ghost use Rattle.units.specs.Ask.{read_row, write_row, storage_read_row, storage_write_row};
 ghost use Rattle.entry.specs.Answer.{packed, filled_of, Answers, Fills, Says, Settles, Draws, Puts};

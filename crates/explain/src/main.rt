@@ -1,5 +1,7 @@
 // The program `explain`: reads one program file from standard input and prints, in plain text, what
 // the analysis says of it.
+#![tactic(auto)]
+
 use libc::STDIN_FILENO;
 
 // A file has at most 16,384 bytes. One byte more is read, so that a longer input is seen to be too

@@ -1,5 +1,7 @@
 // Interference of storages, and pairs of copies.
 // Knows live sets and what each step reads and writes; gives which storages must not share a place, and which were copied into one another.
+#![tactic(auto)]
+
 mod walk;
 
 ghost use Rattle.std.specs.Prelude.{◌≡◌, length};

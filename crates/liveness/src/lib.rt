@@ -1,5 +1,7 @@
 // Live sets of a function.
 // Knows what each step reads and writes; gives live-in and live-out of each block, and the passes that it took to settle them.
+#![tactic(auto)]
+
 pub mod survey;
 
 ghost use Rattle.std.specs.Prelude.{◌≡◌, ℕ, ◌≤◌, length};

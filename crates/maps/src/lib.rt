@@ -1,5 +1,7 @@
 // Occupancy maps: which bits of a memory are taken.
 // Knows bytes; gives the next clear byte, the first clear window, the clear bit that a search from the last byte down meets, and the taking of bytes and bits.
+#![tactic(auto)]
+
 ghost use Rattle.std.specs.Prelude.{◌≡◌, ◌+◌, ◌≤◌, ◌<◌, length};
 ghost use Rattle.maps.specs.Maps.{TakenBelow, NextClear, first_window, FoundIn, low_clear, high_bit, BitIn, clear_bytes, clear_bit, fill, set_bit};
 

@@ -1,6 +1,8 @@
 // Passes over the live rows of a function's blocks.
 // Knows rows of words; gives the settled live rows in a lent buffer, and how many passes they took. What a block reads and writes stands in rows that were
 // made before, and its targets in one list, so that a pass touches words alone.
+#![tactic(auto)]
+
 ghost use Rattle.std.specs.Prelude.{◌≡◌, ◌+◌, ◌*◌, ◌≤◌, ◌<◌, length, get_or};
 ghost use Rattle.passes.specs.Passes.{width, blank, Given, Held, Solved, Passed, Tracked, joined, joined_all, targets_of, visited, differs, leads};
 

@@ -1,5 +1,7 @@
 // The program `place`: reads one program file from standard input and prints where each of its
 // storages lies, or the one line of a refusal.
+#![tactic(auto)]
+
 use libc::STDIN_FILENO;
 
 // One byte more is read than a file may have, so that a longer input is refused and not cut.

@@ -1,5 +1,7 @@
 // The program file: which records may follow one another, and `check`, which answers every byte string.
 // Knows the fields of records and bit rows; gives the refusals, the reader of records, and the numbered units and the table of functions of a file.
+#![tactic(auto)]
+
 mod buckets;
 mod index;
 mod naming;

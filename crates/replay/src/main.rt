@@ -1,5 +1,7 @@
 // The program `replay`: prints the report of each program file that standard input holds. They stand
 // there one after another, each behind its length in two bytes, the low one first.
+#![tactic(auto)]
+
 use fields::bytes::u16_at;
 use libc::STDIN_FILENO;
 

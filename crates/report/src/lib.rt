@@ -1,6 +1,8 @@
 // The report: what the analysis and the placer say of one program file, as lines of text on standard output.
 // Knows the answers of `records`, `units`, `liveness`, `graph` and `allocator`, and the text of `lines`;
 // gives `report`, which writes them all, and `place`, which writes the placing alone.
+#![tactic(auto)]
+
 mod functions;
 mod page;
 mod places;

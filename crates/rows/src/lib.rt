@@ -2,6 +2,8 @@
 // How many words a row has is a parameter where it matters and is known nowhere else, so that one crate serves rows of every width.
 // Each contract is an equation of word lists, and what it means for the numbers of the set follows by the laws of proofs/Members and proofs/Pack.
 // What it is that numbers are linked by their keys stands in specs/Links, without code here: crates above keep such links in slices of their own.
+#![tactic(auto)]
+
 ghost use Rattle.std.specs.Prelude.{◌≡◌, not, ◌+◌, ◌/◌, ◌^◌, ◌≤◌, ◌<◌, length, replicate};
 ghost use Rattle.rows.specs.Row.{member_at, with_at, row, put, or_row, less_row, same_row};
 

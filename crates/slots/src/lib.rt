@@ -1,5 +1,7 @@
 // Slots: places that storages of one owner, kind and length share.
 // Knows storages; gives the slot as a struct with its placement as a choice inside it, and a list of slots, in pages, to search and to put into.
+#![tactic(auto)]
+
 ghost use Rattle.std.specs.Prelude.{◌≡◌, not, ◌+◌, ◌≤◌, ◌<◌, eqb, length, get_or, set, replicate};
 ghost use Rattle.fields.specs.Pick.{pick};
 ghost use Rattle.slots.specs.Slots.{no_slot, no_page, slots_in, suits, passes, marks_of, first_of, opened};

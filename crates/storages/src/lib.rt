@@ -1,5 +1,7 @@
 // A storage record as a value, and where one may lie.
 // Knows records; gives a storage with its fixed place as a choice inside it, the codes of placements, and the room that a placement takes.
+#![tactic(auto)]
+
 ghost use Rattle.std.specs.Prelude.{◌≡◌, ◌≤◌, ◌<◌, length};
 ghost use Rattle.fields.specs.Record.{storage_in};
 ghost use Rattle.storages.specs.Placement.{code_of, a_of, b_of, region_of, fixed_at};

@@ -1,5 +1,7 @@
 // What a step reads and writes, and the five queries at a place.
 // Knows the program file and bit rows; gives the units and storages that an instruction or a terminator reads and writes, and its observable effect.
+#![tactic(auto)]
+
 mod ask;
 pub mod cursor;
 pub mod locate;
