@@ -9,6 +9,7 @@ use lib.Dec.{T}
 
 pub T_true : (b : Bool) → T b → b ≡ true
 T_true true t = refl
+T_true false t = elim t [ ]
 
 pub T_yes : {b : Bool} → b ≡ true → T b
 T_yes e = subst T (sym e) tt
@@ -28,6 +29,7 @@ or_cases false b t = inr t
 
 pub or_l : (a b : Bool) → T a → T (a || b)
 or_l true b t = t
+or_l false b t = elim t [ ]
 
 pub or_r : (a b : Bool) → T b → T (a || b)
 or_r true b t = tt
@@ -35,12 +37,15 @@ or_r false b t = t
 
 pub and_l : (a b : Bool) → T (a && b) → T a
 and_l true b t = tt
+and_l false b t = elim t [ ]
 
 pub and_r : (a b : Bool) → T (a && b) → T b
 and_r true b t = t
+and_r false b t = elim t [ ]
 
 pub and_in : (a b : Bool) → T a → T b → T (a && b)
 and_in true b p q = q
+and_in false b p q = elim p [ ]
 
 pub either : (a b : Bool) → (a || b) ≡ true → (a ≡ true) ⊎ (b ≡ true)
 either true b e = inl refl
