@@ -17,7 +17,7 @@ use storages::{opens_storage, storage_at};
 use turns::turn::{Verdict, place_one};
 
 // How many storages were placed and how many slots opened, or the first refusal.
-#[derive(Drop)]
+#[derive(Clone, Copy)]
 pub enum Allocated {
     Done { placed: usize, slots: usize },
     Refused(Refusal),

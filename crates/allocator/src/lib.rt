@@ -13,7 +13,7 @@ use graph::Graphed;
 use records::Refusal;
 
 // The answer of `place`: how many storages were placed, how many slots opened, and the passes of all functions together; or a refusal.
-#[derive(Drop)]
+#[derive(Clone, Copy)]
 pub enum Placing {
     Done {
         placed: usize,

@@ -10,7 +10,7 @@ ghost use Rattle.graph.specs.Graphs.{GraphsIn, Graphs};
 use records::{Checked, Refusal, number_units};
 
 // The answer of `graph`: the passes of all functions together, or a refusal.
-#[derive(Drop)]
+#[derive(Clone, Copy)]
 pub enum Graphed {
     Passes(usize),
     Refused(Refusal),

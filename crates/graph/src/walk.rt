@@ -272,7 +272,7 @@ fn take_blocks(
 }
 
 // What is known behind a function's records.
-#[derive(Drop)]
+#[derive(Clone, Copy)]
 struct Went {
     passes: usize,
     blocks: usize,

@@ -10,7 +10,7 @@ use fields::bytes::{tail_of, u16_at};
 use records::Refusal;
 
 // The placing stands in a report, where words say what a line is, or alone.
-#[derive(Drop)]
+#[derive(Clone, Copy)]
 pub enum Setting {
     InReport,
     Alone,

@@ -25,7 +25,7 @@ use units::cursor::Cursor;
 const NONE: usize = 65535;
 
 // The answer of `live`: how many passes the function took, or a refusal.
-#[derive(Drop)]
+#[derive(Clone, Copy)]
 pub enum Lived {
     Passes(usize),
     Refused(Refusal),

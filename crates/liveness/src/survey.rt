@@ -25,7 +25,7 @@ const ROW: usize = 8;
 pub const KEPT: usize = 64;
 
 // Where the walk stands: its place, and how many unit numbers, steps and targets come before it.
-#[derive(Drop)]
+#[derive(Clone, Copy)]
 pub struct Walk {
     pub at: usize,
     pub k: usize,
@@ -34,7 +34,7 @@ pub struct Walk {
 }
 
 // How many blocks the function has, and the cursor at the next function or the end.
-#[derive(Drop)]
+#[derive(Clone, Copy)]
 pub struct Overview {
     pub blocks: usize,
     pub after: Cursor,

@@ -6,14 +6,14 @@ ghost use Rattle.std.specs.Prelude.{◌≡◌, ◌+◌, ◌≤◌, ◌<◌, leng
 ghost use Rattle.maps.specs.Maps.{TakenBelow, NextClear, first_window, FoundIn, low_clear, high_bit, BitIn, clear_bytes, clear_bit, fill, set_bit};
 
 // Where a window is, or that there is none.
-#[derive(Drop)]
+#[derive(Clone, Copy)]
 pub enum Found {
     Nothing,
     At(usize),
 }
 
 // Where a clear bit is, or that there is none.
-#[derive(Drop)]
+#[derive(Clone, Copy)]
 pub enum FoundBit {
     NoBit,
     BitAt { offset: usize, bit: usize },

@@ -16,7 +16,7 @@ use storages::{
 };
 
 // The placement that was chosen, or why there is none.
-#[derive(Drop)]
+#[derive(Clone, Copy)]
 pub enum Chosen {
     Spot(Placement),
     Refused(Refusal),

@@ -7,7 +7,7 @@ use maps::{clear_bit, clear_bytes, next_clear, take_bit, take_bytes};
 use storages::{Room, Space};
 
 // An offset for each memory below which no byte is clear: no search for a window need begin lower.
-#[derive(Drop)]
+#[derive(Clone, Copy)]
 pub struct Floor {
     pub app: usize,
     pub work: usize,

@@ -15,7 +15,7 @@ ghost use Rattle.records.specs.Refusal.{number_of, value_of};
 ghost use Rattle.records.specs.Outcome.{Numbers, Checks};
 
 // Why a file, a question or a placement is refused: document 01's numbers 1 to 13, in order, without 7.
-#[derive(Drop)]
+#[derive(Clone, Copy)]
 pub enum Refusal {
     Short,
     Form(usize),
@@ -32,7 +32,7 @@ pub enum Refusal {
 }
 
 // The answer of `check`: how many units the file has, or its first fault.
-#[derive(Drop)]
+#[derive(Clone, Copy)]
 pub enum Checked {
     Units(usize),
     Refused(Refusal),

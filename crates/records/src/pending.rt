@@ -12,7 +12,7 @@ use fields::table::{field_in, operand_fits};
 
 // Its place, its fields, the field of its last operand with how many it has, how many operands are missing, and its targets: the least, the most,
 // and those that are there.
-#[derive(Drop)]
+#[derive(Clone, Copy)]
 pub struct Pending {
     pub place: usize,
     pub row: u64,

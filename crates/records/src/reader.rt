@@ -21,7 +21,7 @@ pub const AT_END: u8 = 5;
 
 // How far the order of records has come; how many functions, blocks of this function, units and unit numbers there are; where the last block
 // stands; and what is open.
-#[derive(Drop)]
+#[derive(Clone, Copy)]
 pub struct Reader {
     pub stage: u8,
     pub functions: usize,
@@ -33,7 +33,7 @@ pub struct Reader {
 }
 
 // The reader after a record, or why the file is refused there.
-#[derive(Drop)]
+#[derive(Clone, Copy)]
 pub enum Taken {
     Next(Reader),
     Refused(Refusal),

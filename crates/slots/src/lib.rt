@@ -9,7 +9,7 @@ ghost use Rattle.slots.specs.Slots.{no_slot, no_page, slots_in, suits, passes, m
 use storages::{Placement, Storage, allows_region, region_of};
 
 // A slot: whom it serves, and where it lies.
-#[derive(Drop)]
+#[derive(Clone, Copy)]
 pub struct Slot {
     pub owner: u16,
     pub kind: u8,
@@ -18,7 +18,7 @@ pub struct Slot {
 }
 
 // The list of slots is kept in pages, since a page by value is copied to be lent.
-#[derive(Drop)]
+#[derive(Clone, Copy)]
 pub struct Page {
     pub slots: [Slot; 16],
 }

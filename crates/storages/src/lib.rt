@@ -12,7 +12,7 @@ ghost use Rattle.storages.specs.File.{opens_storage};
 use fields::bytes::u16_at;
 
 // Where a storage lies, as PhysicalPlacement has it. Offsets, bits and registers are carried as a record has them.
-#[derive(Drop)]
+#[derive(Clone, Copy)]
 pub enum Placement {
     Accumulator,
     CarryFlag,
@@ -29,14 +29,14 @@ pub enum Placement {
 }
 
 // A storage is free to be placed, or fixed at a place.
-#[derive(Drop)]
+#[derive(Clone, Copy)]
 pub enum Fixed {
     Free,
     At(Placement),
 }
 
 // A storage record.
-#[derive(Drop)]
+#[derive(Clone, Copy)]
 pub struct Storage {
     pub id: u16,
     pub owner: u16,
@@ -48,14 +48,14 @@ pub struct Storage {
 }
 
 // The two memories that are shared out: application RAM, and work RAM, in which shadow and work places both lie.
-#[derive(Drop)]
+#[derive(Clone, Copy)]
 pub enum Space {
     App,
     Work,
 }
 
 // What a placement takes: nothing, whole bytes, or one bit.
-#[derive(Drop)]
+#[derive(Clone, Copy)]
 pub enum Room {
     Nowhere,
     Bytes {

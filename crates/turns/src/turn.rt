@@ -17,7 +17,7 @@ use slots::{Page, Slot, placement_at};
 use storages::{Placement, Storage, a_of, b_of, code_of, room_of, tries_slots};
 
 // A storage was placed, or was placed and opens a slot there, or is refused.
-#[derive(Drop)]
+#[derive(Clone, Copy)]
 pub enum Verdict {
     Placed,
     Opened(Placement),

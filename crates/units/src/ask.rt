@@ -15,7 +15,7 @@ use crate::{Answered, Effect};
 use records::{Checked, Refusal};
 
 // The step at a place: the cursor behind its function's record and its own; or a refusal.
-#[derive(Drop)]
+#[derive(Clone, Copy)]
 pub enum Sought {
     Here { own: Cursor, here: Cursor },
     Refused(Refusal),

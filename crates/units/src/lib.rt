@@ -14,14 +14,14 @@ use fields::bytes::tail_of;
 use records::Refusal;
 
 // The answer of a set query: the row is filled, or a refusal.
-#[derive(Drop)]
+#[derive(Clone, Copy)]
 pub enum Answered {
     Done,
     Refused(Refusal),
 }
 
 // The answer on the observable effect.
-#[derive(Drop)]
+#[derive(Clone, Copy)]
 pub enum Effect {
     Yes,
     No,

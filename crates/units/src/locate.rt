@@ -9,7 +9,7 @@ use crate::cursor::{Cursor, brings};
 use fields::bytes::length_of;
 
 // The cursor behind the function's record, and the one at the step; or no step begins there.
-#[derive(Drop)]
+#[derive(Clone, Copy)]
 pub enum Located {
     At { own: Cursor, here: Cursor },
     Nowhere,
