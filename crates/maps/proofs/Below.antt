@@ -15,6 +15,7 @@ every p (suc n) = p n && every p n
 
 both : (a b : Bool) → T (a && b) → T a × T b
 both true b t = (tt, t)
+both false b t = elim t [ ]
 
 step : (p : ℕ → Bool) (n k : ℕ) → T (p n) → (k < n → T (p k)) → k < suc n → (t : Bool) → eqb k n ≡ t → T (p k)
 step p n k h rest lt true e = subst (λ (m : ℕ). T (p m)) (sym (eqb-true k n e)) h

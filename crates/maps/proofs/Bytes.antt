@@ -18,6 +18,7 @@ is_at (At j) k = eqb j k
 
 is_at_lem : (r : Found) (k : ℕ) → T (is_at r k) → r ≡ At k
 is_at_lem (At j) k t = ap At (eqb→eq j k t)
+is_at_lem Nothing k t = elim t [ ]
 
 -- `u8::trailing_zeros(!b)` is the lowest clear bit of a byte that is not full.
 pub low_machine : (b : ℕ) → b < 255 → low_clear b ≡ At (count_trailing_zeros 8 (255 - b))

@@ -40,6 +40,8 @@ clears_out (suc n) (b ∷ m) h = go (eqb b 0) refl (λ t. clears_out n m t) h
     go : (c : Bool) → eqb b 0 ≡ c → (T (clears n m) → (n ≤ length m) × ((k : ℕ) → k < n → get_or m k 0 ≡ 0))
         → T (c && clears n m) → (suc n ≤ length (b ∷ m)) × ((k : ℕ) → k < suc n → get_or (b ∷ m) k 0 ≡ 0)
     go true e ih t = (omega (arith, (ih t).0), at (eqb-true b 0 e) (ih t).1)
+    go false e ih t = elim t [ ]
+clears_out (suc n) [] h = elim h [ ]
 
 pub clears_in : (n : ℕ) (m : List ℕ) → n ≤ length m → ((k : ℕ) → k < n → get_or m k 0 ≡ 0) → T (clears n m)
 unfolding clears
@@ -149,6 +151,7 @@ clear_bytes_out o n m h = go (leb (o + n) (length m)) refl h
   where
     go : (c : Bool) → leb (o + n) (length m) ≡ c → T (c && clears n (drop o m)) → (o + n ≤ length m) × Clear m n o
     go true e t = (leb-true (o + n) (length m) e, clear_out n o m t)
+    go false e t = elim t [ ]
 
 pub clear_bytes_in : (o n : ℕ) (m : List ℕ) → o + n ≤ length m → Clear m n o → T (clear_bytes o n m)
 unfolding clear_bytes
@@ -160,6 +163,7 @@ clear_bytes_yes o n m l c = go (clear_bytes o n m) (clear_bytes_in o n m l c)
   where
     go : (t : Bool) → T t → true ≡ t
     go true h = refl
+    go false h = elim h [ ]
 
 pub clear_bytes_no : (o n : ℕ) (m : List ℕ) → (o + n ≤ length m → Clear m n o → ⊥) → false ≡ clear_bytes o n m
 clear_bytes_no o n m h = go (clear_bytes o n m) (λ t. let x = clear_bytes_out o n m t in h x.0 x.1)
@@ -364,6 +368,7 @@ fill_only o n m i k l h = go (window? o n i (dec_le o i) (dec_lt i (o + n)))
   where
     low : (c : Bool) → ltb k 8 ≡ c → T c → k < 8
     low true e t = ltb-true k 8 e
+    low false e t = elim t [ ]
 
     go : In o n i ⊎ (o ≤ i → i < o + n → ⊥) → T (bit (get_or m i 0) k) ⊎ ((o ≤ i) × (i < o + n) × (k < 8))
     go (inl x) = inr (x.0, x.1, low (ltb k 8) refl (rw (fill_in o n m i x.0 x.1 (omega (arith, x.1)), bit_full k) at h))
@@ -380,6 +385,7 @@ bit_keep b k u h = rw (bit_of_or b (2 ^ k) u) (go (bit b u) h)
   where
     go : (c : Bool) → T c → T (c || bit (2 ^ k) u)
     go true t = tt
+    go false t = elim t [ ]
 
 bit_same : (b k : ℕ) → T (bit (bit_or b (2 ^ k)) k)
 bit_same b k = rw (bit_of_or b (2 ^ k) k, bit_pow_same k) (go (bit b k))
@@ -393,6 +399,7 @@ bit_only b k u h = go (ℕ_discrete u k)
   where
     left : (c : Bool) → T (c || false) → T c
     left true t = tt
+    left false t = elim t [ ]
 
     go : Dec (u ≡ k) → T (bit b u) ⊎ (u ≡ k)
     go (yes e) = inr e

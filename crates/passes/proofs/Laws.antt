@@ -44,6 +44,7 @@ module _ (u : ℕ) where
       go : T (ltb t n && x t u) ⊎ T (union n x ts u) → (T (union n x ts u) → T (union n y ts u)) → T ((ltb t n && y t u) || union n y ts u)
       go (inl p) ih = or_l (ltb t n && y t u) (union n y ts u) (and_in (ltb t n) (y t u) (and_l (ltb t n) (x t u) p) (b t (and_r (ltb t n) (x t u) p)))
       go (inr p) ih = or_r (ltb t n && y t u) (union n y ts u) (ih p)
+  union_mono n x y b [] h = elim h [ ]
 
   backwards_mono : (ss : List Step) (o o' : Row) → (T (o u) → T (o' u)) → T (backwards ss o u) → T (backwards ss o' u)
   unfolding backwards
@@ -252,6 +253,7 @@ module _ (f : List Block) (u : ℕ) where
       go : T (ltb t n && x t u) ⊎ T (union n x ts u) → (T (union n x ts u) → (i : ℕ) × Memᴰ i ts × (i < n) × T (x i u)) → (i : ℕ) × Memᴰ i (t ∷ ts) × (i < n) × T (x i u)
       go (inl p) ih = (t, Memᴰ.head refl, ltb→lt t n (and_l (ltb t n) (x t u) p), and_r (ltb t n) (x t u) p)
       go (inr p) ih = let r = ih p in (r.0, Memᴰ.tail r.1, r.2, r.3)
+  union_out n x [] h = elim h [ ]
 
   union_in : (n : ℕ) (x : ℕ → Row) {t : ℕ} {ts : List ℕ} → Memᴰ t ts → t < n → T (x t u) → T (union n x ts u)
   unfolding union
@@ -337,6 +339,7 @@ sweep_visited f (suc n) s j l = go (ℕ_discrete j n) (sweep_visited f n (visit 
             which : Dec (t ≡ n) → (v.seen t ≡ s.ins t) ⊎ (v.seen t ≡ new t)
             which (yes e') = inr (p ∙ subst (λ i. (visit f n s).ins i ≡ new i) (sym e') (sym at_n))
             which (no e') = inl (p ∙ put_other n _ s.ins t e')
+sweep_visited f zero s j l = elim l [ ]
 
 -- A state that a pass leaves as it is meets both rules at every block.
 module _ (f : List Block) (s : State) (still : pass f s ≡ s) where
@@ -397,6 +400,7 @@ stays f (suc n) l = go (ℕ_discrete n (length f)) (stays f n)
     go : Dec (n ≡ length f) → (length f < n → after f (suc n) ≡ after f n) → after f (suc (suc n)) ≡ after f (suc n)
     go (yes e) _ = subst (λ i. after f (suc (suc i)) ≡ after f (suc i)) (sym e) (settles f)
     go (no e) ih = ap (pass f) (ih (omega arith))
+stays f zero l = elim l [ ]
 
 -- The measure of the loop of passes: only the first B + 1 passes can change something.
 pub changes_early : (f : List Block) (n : ℕ) → ¬ (after f (suc n) ≡ after f n) → n ≤ length f

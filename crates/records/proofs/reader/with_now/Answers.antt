@@ -1,0 +1,8 @@
+-- The stage and what is open are replaced, and every other number is the state's own.
+-- So the record that the code makes is that of the state with these two.
+use mathlib.Core.Path.{refl}
+use Rattle.records.proofs.Held.{reader_opened}
+use Rattle.records.proofs.reader.with_now.Goals as goal
+
+pub returns : goal.returns
+returns c = (refl, refl, λ s x e n. reader_opened _ s e _ x _ n)

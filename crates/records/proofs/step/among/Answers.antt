@@ -1,0 +1,30 @@
+-- The loop's invariant: `hit` says whether the id stands among the first `i` blocks. One block more says so of `i + 1`.
+-- The measure is what is left of the count.
+use mathlib.Core.Path.{◌≡◌, ap, ◌∙◌}
+use mathlib.Core.Logic.{⊎_elim}
+use Prim.Native.Nat.{ℕ, ◌≤◌, ◌<◌, ◌-◌}
+use native.Mathlib.Omega.{arith}
+use lib.ListN.{length, take}
+use Rattle.fields.specs.Pick.{has}
+use Rattle.records.proofs.Lists.{look_hit, look_miss}
+use borrow.Author.Rules.{rules}
+use Rattle.records.proofs.step.among.Goals as goal
+
+pub loop-i-init : goal.loop-i-init
+unfolding has
+loop-i-init c = search rules
+
+pub loop-i-preserved : goal.loop-i-preserved
+loop-i-preserved c =
+    let inside : c.loop-i.i < length c.args.blocks.now = omega arith in (
+      search rules,
+      ⊎_elim
+          (λ w. w.1 ∙ look_hit _ _ _ inside w.0.taken)
+          (λ w. w.1 ∙ look_miss _ _ _ inside _ c.loop-i.invariant.1 w.0.left)
+          c.if-blocks-i.branch,
+    )
+
+pub returns : goal.returns
+returns c =
+    let same : c.loop-i.i ≡ c.args.count = omega arith in
+    c.loop-i.invariant.1 ∙ ap (λ (k : ℕ). has c.args.id (take k c.args.blocks.now)) same
