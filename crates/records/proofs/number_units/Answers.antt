@@ -14,9 +14,9 @@ walk-requires c =
     (c.if-file-gt16384.false, c.clear.ensures ∙ cleared _ c.requires.0, c.requires.1, c.blank.ensures)
 
 pub returns-in-Units : goal.returns-in-Units
-returns-in-Units c = numbering_units _ _ _ _ _ c.walk.ensures _ c.n-1.n.1
+returns-in-Units c = numbering_units _ _ _ _ _ c.walk.ensures _ c.in-Units.is
 
 pub returns-in-Refused : goal.returns-in-Refused
 returns-in-Refused c =
     let w = c.walk in
-    numbering_refused _ _ _ _ _ w.ensures _ _ (length w.new.1.0) c.r-1.r.1 c.clear-in-Refused.ensures (search rules)
+    numbering_refused _ _ _ _ _ w.ensures _ _ (length w.new.words) c.in-Refused.is c.clear-in-Refused.ensures (search rules)

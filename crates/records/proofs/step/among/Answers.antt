@@ -9,6 +9,7 @@ use Rattle.fields.specs.Pick.{has}
 use Rattle.records.proofs.Lists.{look_hit, look_miss}
 use borrow.Author.Rules.{rules}
 use Rattle.records.proofs.step.among.Goals as goal
+use Rattle.records.proofs.step.among.Goals.{then-blocks-i, else-blocks-i}
 
 pub loop-i-init : goal.loop-i-init
 unfolding has
@@ -18,10 +19,10 @@ pub loop-i-preserved : goal.loop-i-preserved
 loop-i-preserved c =
     let inside : c.loop-i.i < length c.args.blocks.now = omega arith in (
       search rules,
-      ⊎_elim
-          (λ w. w.1 ∙ look_hit _ _ _ inside w.0.taken)
-          (λ w. w.1 ∙ look_miss _ _ _ inside _ c.loop-i.invariant.1 w.0.left)
-          c.if-blocks-i.branch,
+      elim c.if-blocks-i.branch [
+        | then-blocks-i w ↦ w.hit-is ∙ look_hit _ _ _ inside w.if-blocks-i.true
+        | else-blocks-i w ↦ w.hit-is ∙ look_miss _ _ _ inside _ c.loop-i.invariant.1 w.if-blocks-i.false
+      ],
     )
 
 pub returns : goal.returns

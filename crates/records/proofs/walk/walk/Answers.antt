@@ -15,7 +15,7 @@ loop-at-init c = (search rules, search rules, search rules, search rules, search
 pub returns-then-is_cut : goal.returns-then-is_cut
 returns-then-is_cut c =
     let l = c.loop-at in
-    reading_fault _ _ _ _ _ _ _ _ _ _ l.invariant.7 l.invariant.1 _ c.Tail-of.ensures.0 c.loop-at-test.true
+    reading_fault _ _ _ _ _ _ _ _ _ _ l.invariant.7 l.invariant.1 _ c.tail_of-tail.ensures.0 c.loop-at-test.true
     (not_whole _ _ _ refl c.length_of-len.ensures (c.is_cut.ensures.0 c.if-is_cut.true))
 
 pub step_on-requires : goal.step_on-requires
@@ -29,26 +29,26 @@ unfolding u8_at
 returns-in-Refused c =
     let l = c.loop-at in
     let w = c.is_cut.ensures.1 c.if-is_cut.false in
-    reading_refused _ _ _ _ _ _ _ _ _ _ l.invariant.7 l.invariant.1 _ c.Tail-of.ensures.0 c.loop-at-test.true _ (whole_kind _ _ _ refl c.length_of-len.ensures w.0 w.1) _ _ _ _ _ _ _ _
-    (c.step_on.ensures l.invariant.7.state l.invariant.7.is l.invariant.7.kept refl l.invariant.7.holds) _ c.r-1.r.1
+    reading_refused _ _ _ _ _ _ _ _ _ _ l.invariant.7 l.invariant.1 _ c.tail_of-tail.ensures.0 c.loop-at-test.true _ (whole_kind _ _ _ refl c.length_of-len.ensures w.0 w.1) _ _ _ _ _ _ _ _
+    (c.step_on.ensures l.invariant.7.state l.invariant.7.is l.invariant.7.kept refl l.invariant.7.holds) _ c.in-Refused.is
 
 pub overflow_add-at : goal.overflow_add-at
 overflow_add-at c =
     let l = c.loop-at in
     let w = c.is_cut.ensures.1 c.if-is_cut.false in
-    record { fits = omega (arith, l.invariant.1, w.1, c.Tail-of.ensures.1) }
+    record { fits = omega (arith, l.invariant.1, w.1, c.tail_of-tail.ensures.1) }
 
 pub loop-at-smaller : goal.loop-at-smaller
 loop-at-smaller c =
     let l = c.loop-at in
     let w = c.is_cut.ensures.1 c.if-is_cut.false in
-    omega (arith, w.1, c.Tail-of.ensures.1, at_most _ w.0)
+    omega (arith, w.1, c.tail_of-tail.ensures.1, at_most _ w.0)
 
 pub loop-at-preserved : goal.loop-at-preserved
 unfolding u8_at
 loop-at-preserved c =
     let l = c.loop-at in (
-      omega (arith, (c.is_cut.ensures.1 c.if-is_cut.false).1, c.Tail-of.ensures.1),
+      omega (arith, (c.is_cut.ensures.1 c.if-is_cut.false).1, c.tail_of-tail.ensures.1),
       l.invariant.1,
       search rules,
       search rules,
@@ -56,7 +56,7 @@ loop-at-preserved c =
       search rules,
       search rules,
       let w = c.is_cut.ensures.1 c.if-is_cut.false in
-          reading_on _ _ _ _ _ _ _ _ _ _ l.invariant.7 l.invariant.1 _ c.Tail-of.ensures.0 c.loop-at-test.true _ (whole_kind _ _ _ refl c.length_of-len.ensures w.0 w.1) _ _ _ _ _ _ _ _ (c.step_on.ensures l.invariant.7.state l.invariant.7.is l.invariant.7.kept refl l.invariant.7.holds) _ c.next-1.next.1,
+          reading_on _ _ _ _ _ _ _ _ _ _ l.invariant.7 l.invariant.1 _ c.tail_of-tail.ensures.0 c.loop-at-test.true _ (whole_kind _ _ _ refl c.length_of-len.ensures w.0 w.1) _ _ _ _ _ _ _ _ (c.step_on.ensures l.invariant.7.state l.invariant.7.is l.invariant.7.kept refl l.invariant.7.holds) _ c.in-Next.is,
     )
 
 pub returns-then-c-eq-AT_END : goal.returns-then-c-eq-AT_END
