@@ -1,0 +1,23 @@
+-- An accepted file has the step that `locate` finds; where it finds none, the words are cleared, as they are where the file is refused.
+-- An accepted file is short enough for the search.
+use borrow.Author.Rules.{rules}
+use native.Mathlib.Omega.{arith}
+use lib.ListN.{length}
+use Rattle.units.proofs.Asking.{numbered_units, seeks_here, seeks_absent, seeks_refused}
+use Rattle.units.proofs.ask.find_step.Goals as goal
+
+pub locate-requires : goal.locate-requires
+locate-requires c =
+    (numbered_units c.args.file.now 0 _ _ _ _ c.number_units.ensures (λ i. omega (arith, c.type_inv.file i)) _ c.in-Units.is).short
+
+pub returns-in-At : goal.returns-in-At
+returns-in-At c =
+    seeks_here c.args.file.now _ _ _ _ _ c.number_units.ensures (λ i. omega (arith, c.type_inv.file i)) _ c.in-Units.is _ c.locate.ensures.0 c.locate.ensures.1 _ _ c.in-At.is
+
+pub returns-in-Nowhere : goal.returns-in-Nowhere
+returns-in-Nowhere c =
+    let u = c.number_units in
+    seeks_absent c.args.file.now _ _ _ _ _ u.ensures (λ i. omega (arith, c.type_inv.file i)) _ c.in-Units.is _ c.locate.ensures.0 c.locate.ensures.1 _ (length u.new.words) c.in-Nowhere.is c.clear.ensures (search rules)
+
+pub returns-in-Refused : goal.returns-in-Refused
+returns-in-Refused c = seeks_refused _ _ _ _ _ _ c.number_units.ensures _ c.in-Refused.is
