@@ -1,0 +1,22 @@
+-- `note_addressed` meets its contract. The invariant: the read units still ahead make of the row now what all of them make of it at the start.
+-- Assumes nothing.
+use mathlib.Core.Path.{refl}
+use Prim.Native.Nat.{◌-◌}
+use native.Mathlib.Omega.{arith}
+use mathlib.Core.List.{List, map}
+use Prim.Native.Nat.{ℕ}
+use Rattle.meetings.specs.Meeting.{paired, addressed_noted}
+use Rattle.meetings.proofs.Walks.{Walking, walk_start, walk_on, walk_end, address_next}
+use Rattle.meetings.proofs.meet.note_addressed.Goals as goal
+
+pub loop-v-init : goal.loop-v-init
+loop-v-init c = walk_start _ _ _ _ _ (omega arith) _ (omega arith) c.next_member-v.ensures
+
+pub loop-v-preserved : goal.loop-v-preserved
+loop-v-preserved c =
+    walk_on _ _ _ _ _ (omega arith) c.loop-v.invariant _ _ _ c.loop-v-test.true (omega arith) c.storage_of.ensures.0
+    (address_next _ _ _ c.insert.ensures) c.next_member-v-in-loop-v.ensures
+
+pub returns : goal.returns
+unfolding paired addressed_noted
+returns c = walk_end _ _ _ _ _ (omega arith) c.loop-v.invariant c.loop-v-test.false refl

@@ -1,0 +1,24 @@
+-- `note_copies` meets its contract. The invariant: the written units still ahead make of the pairs now what all of them make of those at the start.
+-- Assumes nothing.
+use mathlib.Core.Path.{refl}
+use Prim.Native.Nat.{◌-◌}
+use native.Mathlib.Omega.{arith}
+use mathlib.Core.List.{List}
+use Prim.Native.Nat.{ℕ}
+use Rattle.units.specs.Sets.{each}
+use Rattle.meetings.specs.Members.{members}
+use Rattle.meetings.specs.Meeting.{storages_at, paired, copy_pairs, copies_noted}
+use Rattle.meetings.proofs.Walks.{Walking, walk_start, walk_on, walk_end, copy_next}
+use Rattle.meetings.proofs.meet.note_copies.Goals as goal
+
+pub loop-w-init : goal.loop-w-init
+loop-w-init c = walk_start _ _ _ _ _ (omega arith) _ (omega arith) c.next_member-w.ensures
+
+pub loop-w-preserved : goal.loop-w-preserved
+loop-w-preserved c =
+    walk_on _ _ _ _ _ (omega arith) c.loop-w.invariant _ _ _ c.loop-w-test.true (omega arith) c.storage_of.ensures.0
+    (copy_next _ _ _ _ c.note_copies_to.ensures) c.next_member-w-in-loop-w.ensures
+
+pub returns : goal.returns
+unfolding paired copy_pairs each copies_noted
+returns c = walk_end _ _ _ _ _ (omega arith) c.loop-w.invariant c.loop-w-test.false refl

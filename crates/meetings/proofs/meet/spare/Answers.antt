@@ -1,0 +1,20 @@
+-- `spare` meets its contract. The invariant: the read units still ahead make of the row now what all of them make of it at the start.
+-- Assumes nothing.
+use mathlib.Core.Path.{refl}
+use Prim.Native.Nat.{◌-◌}
+use native.Mathlib.Omega.{arith}
+use Rattle.meetings.specs.Meeting.{less_rows}
+use Rattle.meetings.proofs.Walks.{Walking, walk_start, walk_on, walk_end, less_next}
+use Rattle.meetings.proofs.meet.spare.Goals as goal
+
+pub loop-v-init : goal.loop-v-init
+loop-v-init c = walk_start _ _ _ _ _ (omega arith) _ (omega arith) c.next_member-v.ensures
+
+pub loop-v-preserved : goal.loop-v-preserved
+loop-v-preserved c =
+    walk_on _ _ _ _ _ (omega arith) c.loop-v.invariant _ _ _ c.loop-v-test.true (omega arith) c.storage_of.ensures.0
+    (less_next _ _ _ _ c.loop-v.invariant.len (omega arith) c.less_from.ensures) c.next_member-v-in-loop-v.ensures
+
+pub returns : goal.returns
+unfolding less_rows
+returns c = walk_end _ _ _ _ _ (omega arith) c.loop-v.invariant c.loop-v-test.false refl
