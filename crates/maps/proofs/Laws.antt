@@ -178,6 +178,8 @@ clear_bit_out o k m h = go (ltb o (length m)) refl (bit (get_or m o 0) k) refl h
   where
     go : (c : Bool) → ltb o (length m) ≡ c → (d : Bool) → bit (get_or m o 0) k ≡ d → T (c && not d) → (o < length m) × (bit (get_or m o 0) k ≡ false)
     go true e false f t = (ltb-true o (length m) e, f)
+    go true e true f t = elim t [ ]
+    go false e d f t = elim t [ ]
 
 pub clear_bit_in : (o k : ℕ) (m : List ℕ) → o < length m → bit (get_or m o 0) k ≡ false → T (clear_bit o k m)
 unfolding clear_bit

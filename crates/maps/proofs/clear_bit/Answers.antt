@@ -6,7 +6,6 @@ use Prim.Native.Nat.{ℕ, zero, suc, ◌<◌}
 use native.Mathlib.Omega.{arith}
 use lib.Dec.{eqb}
 use lib.ListN.{get_or}
-use borrow.Author.Rules.{rules}
 use borrow.Author.Tests.{le-ltb, lt-ltb}
 use Rattle.rows.specs.Row.{digit, bit}
 use Rattle.rows.proofs.Digit.{digit_lt}

@@ -1,9 +1,8 @@
 -- `maps::clear_bytes` meets its contract. The invariant: the bytes passed are clear,
 -- so that one that is not shows the window taken, and a loop that ends has seen them all. Assumes nothing.
-use Prim.Native.Nat.{◌-◌, ◌≤◌}
 use native.Mathlib.Omega.{arith}
 use borrow.Author.Count.{below_none, below_more}
-use Rattle.maps.proofs.Laws.{Clear, clear_bytes_yes, clear_bytes_no}
+use Rattle.maps.proofs.Laws.{clear_bytes_yes, clear_bytes_no}
 use Rattle.maps.proofs.clear_bytes.Goals as goal
 
 pub returns-then-map-offset : goal.returns-then-map-offset

@@ -1,19 +1,21 @@
 -- `maps::first_clear` meets its contract. The inner loop has seen k clear bytes: a byte behind them that is not clear lies in each window from o to o + k,
 -- none begins before the next clear byte, and a map that ends there is too short for each later one. Before o, where at first all is taken, no window is clear. Assumes nothing.
 use mathlib.Core.Path.{sym, subst}
-use mathlib.Core.Logic.{⊎_elim}
-use Prim.Native.Nat.{◌+◌, ◌-◌, ◌≤◌, ◌<◌}
+use Prim.Native.Nat.{◌+◌, ◌≤◌, ◌<◌}
 use native.Mathlib.Omega.{arith}
 use borrow.Author.Count.{below_none, below_more}
 use lib.ListN.{length}
 use Rattle.maps.specs.declared.Found.TheVariants.{Nothing, At}
 use Rattle.maps.proofs.Laws.{Clear, NoneBefore, clear_in, none_taken, none_behind, none_until, none_short, window_only}
 use Rattle.maps.proofs.first_clear.Goals as goal
+use Rattle.maps.proofs.first_clear.Goals.{then-n-eq0, else-n-eq0}
 
 pub search-init : goal.search-init
 search-init c =
-    ⊎_elim (λ w j l t. absurd (omega (arith, w.1)))
-    (λ w. subst (NoneBefore c.args.n c.args.map.now) (sym w.1) (none_taken _ _ _ (omega (arith, w.0.left)) c.requires)) c.if-n-eq0.branch
+    elim c.if-n-eq0.branch [
+      | then-n-eq0 w ↦ λ j l t. absurd (omega (arith, w.o-is))
+      | else-n-eq0 w ↦ subst (NoneBefore c.args.n c.args.map.now) (sym w.o-is) (none_taken _ _ _ (omega (arith, w.if-n-eq0.false)) c.requires)
+    ]
 
 pub loop-k-init : goal.loop-k-init
 loop-k-init c = (omega arith, omega arith, below_none _)

@@ -1,13 +1,8 @@
 -- `maps::first_clear` meets its contract. The inner loop has seen k clear bytes: a byte behind them that is not clear lies in each window from o to o + k,
 -- none begins before the next clear byte, and a map that ends there is too short for each later one. Before o, where at first all is taken, no window is clear. Assumes nothing.
-use mathlib.Core.Path.{sym, subst}
-use mathlib.Core.Logic.{⊎_elim}
-use Prim.Native.Nat.{◌+◌, ◌-◌, ◌≤◌, ◌<◌}
-use native.Mathlib.Omega.{arith}
-use borrow.Author.Count.{below_none, below_more}
+use Prim.Native.Nat.{◌+◌, ◌-◌, ◌≤◌}
 use lib.ListN.{length}
-use Rattle.maps.specs.declared.Found.TheVariants.{Nothing, At}
-use Rattle.maps.proofs.Laws.{Clear, NoneBefore, clear_in, none_taken, none_behind, none_until, none_short, window_only}
+use Rattle.maps.proofs.Laws.{Clear, NoneBefore}
 use Rattle.maps.proofs.first_clear.Given as goal
 
 abbrev pub invariant-loop-k : goal.invariant-loop-k

@@ -1,9 +1,9 @@
 -- `maps::high_bit` meets its contract. The invariant: the whole search comes to what is left of it below i,
 -- since each byte passed is full. Assumes nothing.
-use mathlib.Core.Path.{◌≡◌, refl, sym, ap, ◌∙◌}
-use Prim.Native.Nat.{◌-◌, ◌≤◌}
+use mathlib.Core.Path.{refl, sym, ap, ◌∙◌}
+use Prim.Native.Nat.{◌-◌}
 use native.Mathlib.Omega.{arith}
-use Rattle.maps.specs.Maps.{low_clear, high_bit}
+use Rattle.maps.specs.Maps.{low_clear}
 use Rattle.maps.proofs.Laws.{high_pass, high_hit, high_end}
 use Rattle.maps.proofs.Bytes.{low_full}
 use Rattle.maps.proofs.high_bit.Goals as goal

@@ -1,11 +1,8 @@
 -- `maps::high_bit` meets its contract. The invariant: the whole search comes to what is left of it below i,
 -- since each byte passed is full. Assumes nothing.
-use mathlib.Core.Path.{◌≡◌, refl, sym, ap, ◌∙◌}
-use Prim.Native.Nat.{◌-◌, ◌≤◌}
-use native.Mathlib.Omega.{arith}
-use Rattle.maps.specs.Maps.{low_clear, high_bit}
-use Rattle.maps.proofs.Laws.{high_pass, high_hit, high_end}
-use Rattle.maps.proofs.Bytes.{low_full}
+use mathlib.Core.Path.{◌≡◌}
+use Prim.Native.Nat.{◌≤◌}
+use Rattle.maps.specs.Maps.{high_bit}
 use Rattle.maps.proofs.high_bit.Given as goal
 
 abbrev pub invariant-loop-i : goal.invariant-loop-i

@@ -1,9 +1,6 @@
 -- `maps::next_clear` meets its contract. The invariant: no byte passed is clear,
 -- so that the one at which the loop stops is the first, or the map ends there. Assumes nothing.
-use mathlib.Core.Path.{◌≡◌}
-use Prim.Native.Nat.{ℕ, ◌-◌, ◌≤◌, ◌<◌}
 use native.Mathlib.Omega.{arith}
-use lib.ListN.{length, get_or}
 use borrow.Author.Count.{below_more}
 use Rattle.maps.proofs.next_clear.Goals as goal
 

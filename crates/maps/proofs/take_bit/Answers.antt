@@ -5,7 +5,6 @@ use Prim.Native.Nat.{◌*◌, ◌%◌, ◌^◌}
 use native.Mathlib.Nat.{one-mul}
 use native.Mathlib.Omega.{arith}
 use lib.Pow.{shl_exact}
-use borrow.Author.Rules.{rules}
 use Rattle.maps.specs.Maps.{set_bit}
 use Rattle.maps.proofs.take_bit.Goals as goal
 

@@ -1,9 +1,6 @@
 -- `passes::gather` meets its contract. The invariant: joining the targets from i on comes to what joining all of them comes to,
 -- so a turn takes the first of those that are left, and at the end none is left. Assumes nothing.
-use mathlib.Core.Path.{sym, ◌∙◌}
-use Prim.Native.Nat.{◌+◌, ◌-◌}
-use native.Mathlib.Omega.{arith}
-use Rattle.passes.proofs.Passing.{Gathering, gathering_start, gathering_step, gathering_done}
+use Rattle.passes.proofs.Passing.{Gathering}
 use Rattle.passes.proofs.gather.Given as goal
 
 abbrev pub invariant-loop-i : goal.invariant-loop-i

@@ -1,7 +1,6 @@
 -- `passes::join` meets its contract. Where t is a block, union_from writes the union over the whole of `out`, which is as wide as a row;
 -- where it is none, `out` stays as it is. Assumes nothing.
 use native.Mathlib.Omega.{arith}
-use borrow.Author.Rules.{rules}
 use Rattle.passes.proofs.Passing.{joined_there, joined_missing}
 use Rattle.passes.proofs.join.Goals as goal
 

@@ -1,12 +1,12 @@
 -- `passes::leads_to` meets its contract. The invariant: the test of the targets from i on is the test of all of them,
 -- so a target that moved answers it, any other leaves it to those that follow, and at the end none is left. Assumes nothing.
-use mathlib.Core.Path.{◌≡◌, refl, sym, ◌∙◌}
-use mathlib.Core.Logic.{⊎_elim}
-use Prim.Native.Nat.{◌+◌, ◌-◌}
+use mathlib.Core.Path.{refl, sym, ◌∙◌}
+use Prim.Native.Nat.{◌+◌}
 use native.Mathlib.Omega.{arith}
-use Rattle.passes.specs.Passes.{part, targets_of, leads}
+use Rattle.passes.specs.Passes.{targets_of}
 use Rattle.passes.proofs.Tracking.{leads_hit, leads_past, leads_miss, leads_end}
 use Rattle.passes.proofs.leads_to.Goals as goal
+use Rattle.passes.proofs.leads_to.Goals.{then-t-count+else-moved-t, else-t-count}
 
 pub overflow_cast-from : goal.overflow_cast-from
 overflow_cast-from c = omega (arith, c.type_inv.starts c.args.k)
@@ -29,10 +29,10 @@ returns-then-moved-t c =
 pub loop-i-preserved : goal.loop-i-preserved
 loop-i-preserved c =
     let l = c.loop-i in
-    ⊎_elim
-    (λ w. sym (leads_miss c.args.moved.now c.args.count c.args.targets.now l.i _ (omega arith) c.requires.in_bounds.1 (omega arith) w.2.left) ∙ l.invariant)
-    (λ w. sym (leads_past c.args.moved.now c.args.count c.args.targets.now l.i _ (omega arith) c.requires.in_bounds.1 (omega arith)) ∙ l.invariant)
-    c.if-t-count.branch
+    elim c.if-t-count.branch [
+      | then-t-count+else-moved-t w ↦ sym (leads_miss c.args.moved.now c.args.count c.args.targets.now l.i _ (omega arith) c.requires.in_bounds.1 (omega arith) w.if-moved-t.false) ∙ l.invariant
+      | else-t-count w ↦ sym (leads_past c.args.moved.now c.args.count c.args.targets.now l.i _ (omega arith) c.requires.in_bounds.1 (omega arith)) ∙ l.invariant
+    ]
 
 pub returns : goal.returns
 returns c = sym (leads_end _ _ _ _ _ (omega arith)) ∙ c.loop-i.invariant

@@ -1,11 +1,7 @@
 -- `passes::leads_to` meets its contract. The invariant: the test of the targets from i on is the test of all of them,
 -- so a target that moved answers it, any other leaves it to those that follow, and at the end none is left. Assumes nothing.
-use mathlib.Core.Path.{◌≡◌, refl, sym, ◌∙◌}
-use mathlib.Core.Logic.{⊎_elim}
-use Prim.Native.Nat.{◌+◌, ◌-◌}
-use native.Mathlib.Omega.{arith}
+use mathlib.Core.Path.{◌≡◌}
 use Rattle.passes.specs.Passes.{part, targets_of, leads}
-use Rattle.passes.proofs.Tracking.{leads_hit, leads_past, leads_miss, leads_end}
 use Rattle.passes.proofs.leads_to.Given as goal
 
 abbrev pub invariant-loop-i : goal.invariant-loop-i

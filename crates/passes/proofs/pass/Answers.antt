@@ -3,7 +3,7 @@
 use mathlib.Core.Path.{sym, ◌∙◌, subst}
 use native.Mathlib.Omega.{arith}
 use Rattle.passes.specs.Passes.{Tracked}
-use Rattle.passes.proofs.Passing.{Passing, passing_start, passing_again, passing_done}
+use Rattle.passes.proofs.Passing.{passing_start, passing_again, passing_done}
 use Rattle.passes.proofs.pass.Goals as goal
 
 pub loop-k-init : goal.loop-k-init
@@ -13,14 +13,14 @@ loop-k-init c =
 pub turn-c-requires : goal.turn-c-requires
 turn-c-requires c =
     let p = c.loop-k.invariant in
-    (c.requires.0, ((p.0.held.len, omega (arith, p.0.low)), subst (Tracked _ _ _ _ _ _ _ _) (omega arith) p.1))
+    record { given = c.requires.given; live_len = (p.0.held.len, omega (arith, p.0.low)); tracked = subst (Tracked _ _ _ _ _ _ _ _) (omega arith) p.1 }
 
 pub loop-k-preserved : goal.loop-k-preserved
 loop-k-preserved c =
     let v = c.turn-c in
     let l = c.loop-k in (
       passing_again _ _ _ _ _ c.requires.given (λ i. (c.type_inv.gens i).fits)
-          (λ i. (c.type_inv.kills i).fits) _ _ _ _ l.k (omega arith) l.invariant.0 _ v.ensures.0.0 v.ensures.0.1,
+          (λ i. (c.type_inv.kills i).fits) _ _ _ _ l.k (omega arith) l.invariant.0 _ v.ensures.live_after.0 v.ensures.live_after.1,
       v.ensures.tracked_2,
     )
 

@@ -1,9 +1,7 @@
 -- `passes::pass` meets its contract. The invariant: sweeping the blocks below k comes to the whole pass, and these are as they were,
 -- so a turn that changes a row shows that the pass changes the live sets; and what the turns track is kept. Assumes nothing.
-use mathlib.Core.Path.{sym, ◌∙◌, subst}
-use native.Mathlib.Omega.{arith}
 use Rattle.passes.specs.Passes.{Tracked}
-use Rattle.passes.proofs.Passing.{Passing, passing_start, passing_again, passing_done}
+use Rattle.passes.proofs.Passing.{Passing}
 use Rattle.passes.proofs.pass.Given as goal
 
 abbrev pub invariant-loop-k : goal.invariant-loop-k

@@ -5,7 +5,6 @@ use Prim.Native.Nat.{◌+◌}
 use native.Mathlib.Omega.{arith}
 use Rattle.passes.specs.Passes.{blank}
 use Rattle.passes.proofs.Passing.{visit_words, visit_flag}
-use borrow.Author.Rules.{rules}
 use Rattle.passes.proofs.visit.Goals as goal
 
 pub gather-requires : goal.gather-requires
