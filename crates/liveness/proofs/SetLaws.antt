@@ -78,6 +78,7 @@ module _ {A : Type 0} where
   unfolding every
   every_out t (x ∷ l) h {a = a} (Memᴰ.head e) = subst (λ b. T (t b)) (sym e) (and_l (t x) (every t l) h)
   every_out t (x ∷ l) h (Memᴰ.tail m) = every_out t l (and_r (t x) (every t l) h) m
+  every_out t [] h {a = a} x'' = elim x'' [ ]
 
   pub every_in : (t : A → Bool) (l : List A) → ((a : A) → Memᴰ a l → T (t a)) → T (every t l)
   unfolding every
@@ -97,6 +98,7 @@ module _ {A B : Type 0} where
   pub mem_map : (f : A → B) (l : List A) {b : B} → Memᴰ b (map f l) → (a : A) × Memᴰ a l × (b ≡ f a)
   mem_map f (a ∷ l) (Memᴰ.head e) = (a, Memᴰ.head refl, e)
   mem_map f (a ∷ l) (Memᴰ.tail m) = let r = mem_map f l m in (r.0, Memᴰ.tail r.1, r.2)
+  mem_map f [] {b = b} x' = elim x' [ ]
 
 pub mem_at : {A : Type 0} (l : List A) (k : ℕ) (d : A) → k < length l → Memᴰ (get_or l k d) l
 mem_at [] k d h = absurd (not-suc-le-zero h)

@@ -31,6 +31,7 @@ use Rattle.liveness.proofs.Numbered.{Among, Listed, AllListed}
 pub all_mem : {A : Type 0} (P : A → Type 0) (l : List A) → All P l → {a : A} → Memᴰ a l → P a
 all_mem P (x ∷ l) h (Memᴰ.head e) = subst P (sym e) h.0
 all_mem P (x ∷ l) h (Memᴰ.tail m) = all_mem P l h.1 m
+all_mem {A = A} P [] h {a = a} x'' = elim x'' [ ]
 
 -- Block number k of a function, as the passes see it.
 pub flow_at_lem : (ed : Edition) (p : Program) (f : Function) (k : ℕ) (b : Block) → k < length f.blocks → flow_at (flows ed p f) k ≡ flow_of ed p f (get_or f.blocks k b)

@@ -1,0 +1,20 @@
+-- A refusal of the file leaves its cleared words beside a cleared buffer; units are handed on, and their file is no longer than it may be.
+-- Assumes nothing.
+use native.Mathlib.Omega.{arith}
+use Rattle.units.proofs.Asking.{numbered_units}
+use Rattle.liveness.proofs.Answering.{blank_of, lived_refused, lived_done}
+use borrow.Author.Rules.{rules}
+use Rattle.liveness.proofs.live_in.Goals as goal
+
+pub live_of-requires : goal.live_of-requires
+live_of-requires c =
+    let a = numbered_units c.args.file.now 0 _ _ _ _ c.number_units.ensures (λ i. omega (arith, c.type_inv.file i)) _ c.in-Units.is in
+    (a.short, search rules, a.sane, search rules, blank_of _ _ c.requires.1 c.clear.ensures)
+
+pub returns-in-Refused : goal.returns-in-Refused
+returns-in-Refused c = lived_refused _ _ _ _ _ _ c.number_units.ensures _ _ c.in-Refused.is (blank_of _ _ c.requires.1 c.clear.ensures)
+
+pub returns-in-Units : goal.returns-in-Units
+returns-in-Units c =
+    let a = numbered_units c.args.file.now c.args.number _ _ _ _ c.number_units.ensures (λ i. omega (arith, c.type_inv.file i)) _ c.in-Units.is in
+    lived_done _ _ _ _ _ a _ _ _ c.live_of.ensures
