@@ -1,0 +1,34 @@
+-- A refusal of the file leaves its cleared words beside cleared buffers; units are handed on to the walk, which asks for cleared rows.
+-- What the walk leaves is what the one outcome names.
+use Prim.Native.Nat.{ℕ, ◌<◌}
+use native.Mathlib.Omega.{arith}
+use lib.ListN.{get_or}
+use Rattle.graph.proofs.Drawing.{blank_of, drawn_refused, counted_of, counted_sane, counted_short, counted_header, counted_most, drawn_done}
+use borrow.Author.Rules.{rules}
+use Rattle.graph.proofs.graph_in.Goals as goal
+
+pub graph_of-requires : goal.graph_of-requires
+graph_of-requires c =
+    let bytes : (i : ℕ) → get_or c.args.file.now i 0 < 256 = λ i. omega (arith, c.type_inv.file i) in
+    let h = c.number_units.ensures in
+    let e = c.in-Units.is in (
+      counted_short _ _ _ _ _ h bytes _ e,
+      counted_header _ _ _ _ _ h bytes _ e,
+      search rules,
+      counted_sane _ _ _ _ _ h bytes _ e,
+      search rules,
+      counted_most _ _ _ _ _ h bytes _ e,
+      blank_of 2048 _ _ c.requires.1 c.clear.ensures,
+      blank_of 1024 _ _ c.requires.2 c.clear-2.ensures,
+      blank_of 1024 _ _ c.requires.3 c.clear-3.ensures,
+      counted_of _ _ _ _ _ h bytes _ e,
+    )
+
+pub returns-in-Refused : goal.returns-in-Refused
+returns-in-Refused c =
+    drawn_refused _ _ _ _ _ c.number_units.ensures _ _ _ _ c.in-Refused.is (blank_of 2048 _ _ c.requires.1 c.clear.ensures) (blank_of 1024 _ _ c.requires.2 c.clear-2.ensures) (blank_of 1024 _ _ c.requires.3 c.clear-3.ensures)
+
+pub returns-in-Units : goal.returns-in-Units
+returns-in-Units c =
+    let bytes : (i : ℕ) → get_or c.args.file.now i 0 < 256 = λ i. omega (arith, c.type_inv.file i) in
+    drawn_done _ _ _ _ _ c.number_units.ensures bytes _ c.in-Units.is _ _ _ _ c.graph_of.ensures
