@@ -37,8 +37,8 @@ pub fn place_all(
 ) -> Allocated
     requires { (7 ≤ length file.now) × Fit file.now × (length graph.now ≡ 1024) × (length copies.now ≡ 1024) × (length app.old ≤ 256) × (length work.old ≤ 512)
         × (length ids.old ≡ 256) × (kin.old ≡ replicate 512 0) × (length numbers.old ≡ 256) × (out.old ≡ laid 2048 [] []) }
-    ensures { (g : Given) → Tells g graph.now copies.now → g.lo ≡ 0 → g.hi ≡ length app.entry.now
-        → Allocates (place_from g (map stored (declared file.now)) (record { maps = record { app = app.entry.now; wrk = work.old }; slots = []; placed = [] }))
+    ensures { (g : Given) → Tells g graph.now copies.now → g.lo ≡ 0 → g.hi ≡ length app.old
+        → Allocates (place_from g (map stored (declared file.now)) (record { maps = record { app = app.old; wrk = work.old }; slots = []; placed = [] }))
         result out.new }
 {
     let mut list = no_slots();
