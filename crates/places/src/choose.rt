@@ -134,7 +134,7 @@ fn app_bit(s: Storage, found: FoundBit, work: &[u8]) -> Chosen
 // A bit: application RAM first, whether or not the storage must be direct. Bytes lo to hi - 1 of it are looked through.
 pub fn choose_bit(s: Storage, app: &[u8], work: &[u8], lo: usize, hi: usize) -> Chosen
     requires { (hi ≤ length app.now) × (length app.now ≤ 256) × (length work.now ≤ 512) }
-    ensures { (g : Given) → g.lo ≡ lo → g.hi ≡ hi → result ≡ choose_bit g s (record { app = app.entry.now; wrk = work.now }) }
+    ensures { (g : Given) → g.lo ≡ lo → g.hi ≡ hi → result ≡ choose_bit g s (record { app = app.now; wrk = work.now }) }
 {
     if allows_region(s, 2) {
         return app_bit(s, high_bit(app, lo, hi), work);
@@ -178,7 +178,7 @@ fn app_bytes(s: Storage, found: Found, work: &[u8], low: usize) -> Chosen
 // Bytes: the first clear window of application RAM, where that is allowed.
 pub fn choose_bytes(s: Storage, app: &[u8], work: &[u8], floor: Floor) -> Chosen
     requires { (length app.now ≤ 256) × (length work.now ≤ 512) × Solid floor app.now work.now }
-    ensures { result ≡ choose_bytes s (record { app = app.entry.now; wrk = work.now }) }
+    ensures { result ≡ choose_bytes s (record { app = app.now; wrk = work.now }) }
 {
     if allows_region(s, 2) {
         let found = first_clear(app, floor.app, s.len as usize);
@@ -207,7 +207,7 @@ pub fn choose_free(
     hi: usize,
 ) -> Chosen
     requires { (hi ≤ length app.now) × (length app.now ≤ 256) × (length work.now ≤ 512) × Solid floor app.now work.now }
-    ensures { (g : Given) → g.lo ≡ lo → g.hi ≡ hi → result ≡ choose_free g s (record { app = app.entry.now; wrk = work.now }) }
+    ensures { (g : Given) → g.lo ≡ lo → g.hi ≡ hi → result ≡ choose_free g s (record { app = app.now; wrk = work.now }) }
 {
     if sits_in_flag(s) {
         return Chosen::Spot(Placement::CarryFlag);
@@ -221,7 +221,7 @@ pub fn choose_free(
 // May the fixed place be taken: is its room clear, and large enough?
 fn is_open(s: Storage, p: Placement, app: &[u8], work: &[u8]) -> bool
     requires { Small (room s.len p) }
-    ensures { result ≡ (clear_room (record { app = app.entry.now; wrk = work.now }) (room s.len p) and alone s.len p) }
+    ensures { result ≡ (clear_room (record { app = app.now; wrk = work.now }) (room s.len p) and alone s.len p) }
 {
     if is_clear(app, work, room_of(s.len, p)) {
         return is_alone(s.len, p);
@@ -232,7 +232,7 @@ fn is_open(s: Storage, p: Placement, app: &[u8], work: &[u8]) -> bool
 // A storage at its fixed place.
 pub fn choose_fixed(s: Storage, p: Placement, app: &[u8], work: &[u8]) -> Chosen
     requires { Small (room s.len p) }
-    ensures { result ≡ choose_fixed s p (record { app = app.entry.now; wrk = work.now }) }
+    ensures { result ≡ choose_fixed s p (record { app = app.now; wrk = work.now }) }
 {
     if !kind_matches(s.kind, s.len, code_of(p)) {
         return Chosen::Refused(Refusal::BadFixed(s.id as usize));
@@ -246,7 +246,7 @@ pub fn choose_fixed(s: Storage, p: Placement, app: &[u8], work: &[u8]) -> Chosen
 // A place of its own for a storage.
 pub fn choose(s: Storage, app: &[u8], work: &[u8], floor: Floor, lo: usize, hi: usize) -> Chosen
     requires { (hi ≤ length app.now) × (length app.now ≤ 256) × (length work.now ≤ 512) × FixedSmall s.len s.fixed × Solid floor app.now work.now }
-    ensures { (g : Given) → g.lo ≡ lo → g.hi ≡ hi → result ≡ choose g s (record { app = app.entry.now; wrk = work.now }) }
+    ensures { (g : Given) → g.lo ≡ lo → g.hi ≡ hi → result ≡ choose g s (record { app = app.now; wrk = work.now }) }
 {
     let fixed = s.fixed;
     match fixed {

@@ -16,7 +16,7 @@ pub struct Floor {
 // Is the room inside its memory, and clear?
 pub fn is_clear(app: &[u8], work: &[u8], room: Room) -> bool
     requires { Small room }
-    ensures { result ≡ clear_room (record { app = app.entry.now; wrk = work.now }) room }
+    ensures { result ≡ clear_room (record { app = app.now; wrk = work.now }) room }
 {
     match room {
         Room::Nowhere => true,
@@ -38,7 +38,7 @@ pub fn is_clear(app: &[u8], work: &[u8], room: Room) -> bool
 // Takes the room.
 pub fn take_room(app: &mut [u8], work: &mut [u8], room: Room)
     requires { Inside (length app.old) (length work.old) room }
-    ensures { (record { app = app.exit.now; wrk = work.new }) ≡ reserve room (record { app = app.entry.now; wrk = work.old }) }
+    ensures { (record { app = app.new; wrk = work.new }) ≡ reserve room (record { app = app.old; wrk = work.old }) }
 {
     match room {
         Room::Nowhere => {}
