@@ -11,7 +11,6 @@ use lib.ListN.{length, length-append, length-map}
 use borrow.Author.Tests.{ltb-false, eqb-true}
 use Rattle.fields.specs.Pick.{pick, All}
 use Rattle.fields.specs.Edition.{Edition}
-use Rattle.records.specs.declared.Refusal.{Refusal}
 use Rattle.records.specs.declared.Refusal.TheVariants.{Form, Limit}
 use Rattle.fields.specs.Record.{Storage, Rec, header, storage, function, abi, block, instruction, operand, terminator, target, end, header_fits, storage_fits}
 use Rattle.records.specs.Step.{State, start, Turn, next, refused, in_abi, at_end}

@@ -18,13 +18,12 @@ use Rattle.fields.specs.Edition.{one}
 use Rattle.fields.specs.Fields.{Field, Count, lacks, missing, most, field_at}
 use Rattle.fields.specs.Record.{Operand, Rec, header, storage, function, abi, block, instruction, operand, terminator, target, end, whole, fault, u8_at, length_of, lengths, header_at, instruction_at, terminator_at, record_at, present, read}
 use Rattle.records.specs.Step.{State, start, Turn, next, refused, with_header, with_storage, with_function, with_block, with_opened, with_number, with_unit, opened, with_given, with_target, operand_fits, step, at_end}
-use Rattle.records.specs.Check.{scan, units, closed, check, pieces, numbers as numbers_in}
+use Rattle.records.specs.Check.{scan, closed, check, pieces, numbers as numbers_in}
 use Rattle.records.specs.Index.{bare, brought, entered, tabled_in, tabled}
 use Rattle.records.specs.Outcome.{laid}
 use Rattle.records.specs.Mirror.{Rising, seen, reader_of, Kept, Holds, Enters, Sane, Comes, Walked}
 use Rattle.records.specs.declared.Refusal.{Refusal}
 use Rattle.records.specs.declared.Refusal.TheVariants.{Form}
-use Rattle.records.specs.declared.Checked.{Checked}
 use Rattle.records.specs.declared.Checked.TheVariants as checked
 use Rattle.records.specs.declared.reader.Reader.{Reader}
 use Rattle.records.specs.declared.reader.Taken.{Taken}

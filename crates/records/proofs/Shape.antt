@@ -11,7 +11,7 @@ use lib.ListN.{length, drop, length-append}
 use Rattle.fields.specs.Edition.{Edition}
 use Rattle.fields.specs.Record.{Storage, Rec, header, storage, function, abi, block, instruction, operand, terminator, target, end}
 use Rattle.records.specs.Step.{State, with_header, with_storage, with_function, with_block, with_opened, with_number, with_unit, in_abi, at_end}
-use Rattle.records.specs.Program.{Step, Block, Function, Rest, empty, put_step, put}
+use Rattle.records.specs.Program.{Block, Function, Rest, empty, put_step, put}
 use Rattle.fields.specs.Pick.{All}
 use Rattle.records.proofs.Scan.{Walk, done, more}
 use Rattle.records.proofs.Took.{Named, Took, stepped, unnamed, given_to}

@@ -2,7 +2,7 @@
 -- `walk_ids`, `walk_numbers`: the program's storages and functions are those that the reader lists. Assumes nothing.
 use mathlib.Core.Path.{◌≡◌, refl, sym, ap, ◌∙◌}
 use mathlib.Core.Logic.{◌⊎◌, inl, inr}
-use mathlib.Core.Bool.{true, false, true≢false}
+use mathlib.Core.Bool.{true, true≢false}
 use mathlib.Core.List.{List, []}
 use Prim.Native.Nat.{ℕ, ◌≤◌, ◌<◌}
 use native.Mathlib.Omega.{arith}
@@ -13,7 +13,6 @@ use Rattle.fields.specs.Pick.{◌or◌, times}
 use Rattle.fields.specs.Edition.{Edition}
 use Rattle.fields.specs.Record.{Operand, Rec, header, storage, function, abi, block, instruction, operand, terminator, target, end}
 use Rattle.records.specs.Step.{nothing, State, start, with_header, with_storage, with_function, with_block, with_opened, with_number, with_unit, at_start, in_storages, in_abi, in_block, after_block, at_end, operand_fits, last_field}
-use Rattle.records.specs.Program.{Step}
 use Rattle.fields.proofs.Front.{and_both, or_cases}
 use Rattle.records.proofs.Scan.{Walk, done, more}
 use Rattle.records.proofs.Took.{Named, Took, stepped, unnamed, given_to}

@@ -6,7 +6,6 @@ use Rattle.records.specs.Check.{Answer, units, refusal, check}
 use Rattle.records.specs.Outcome.{laid}
 use Rattle.records.specs.Program.{Step, Function, Program, program}
 use Rattle.records.specs.Place.{Found, step, nowhere, step_at}
-use Rattle.records.specs.declared.Refusal.{Refusal}
 use Rattle.records.specs.declared.Refusal.TheVariants.{Short, Absent}
 use Rattle.units.specs.declared.Answered.{Answered}
 use Rattle.units.specs.declared.Answered.TheVariants.{Done, Refused}

@@ -1,9 +1,5 @@
 -- The words below `i` are 0 and the others as they were, so that at the end all are 0.
 -- The measure is what is left of the length.
-use Prim.Native.Nat.{◌≤◌, ◌-◌}
-use mathlib.Core.Path.{◌≡◌}
-use mathlib.Core.List.{◌++◌}
-use lib.ListN.{length, drop, replicate}
 use borrow.Author.Rules.{rules}
 use Rattle.records.proofs.Outcomes.{zero_more, zero_all}
 use Rattle.records.proofs.clear.Goals as goal

@@ -4,8 +4,6 @@ use Prim.Native.Nat.{◌≤◌, ◌-◌}
 use mathlib.Core.Path.{◌≡◌}
 use mathlib.Core.List.{◌++◌}
 use lib.ListN.{length, drop, replicate}
-use borrow.Author.Rules.{rules}
-use Rattle.records.proofs.Outcomes.{zero_more, zero_all}
 use Rattle.records.proofs.clear.Given as goal
 
 abbrev pub invariant-loop-i : goal.invariant-loop-i

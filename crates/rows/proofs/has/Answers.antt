@@ -2,7 +2,6 @@
 -- so the result is equal to it as soon as the definitions are opened. Assumes nothing.
 use mathlib.Core.Path.{refl}
 use Rattle.rows.specs.Row.{member_at, bit, digit}
-use borrow.Author.Rules.{rules}
 use Rattle.rows.proofs.has.Goals as goal
 
 pub returns : goal.returns

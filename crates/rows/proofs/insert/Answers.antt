@@ -1,7 +1,6 @@
 -- `rows::insert` meets its contract. The one store is the one of the definition,
 -- once the mask is known to be 2 ^ (n mod 64). Assumes nothing.
 use Rattle.rows.specs.Row.{with_at}
-use borrow.Author.Rules.{rules}
 use Rattle.rows.proofs.insert.Goals as goal
 
 pub returns : goal.returns

@@ -1,11 +1,11 @@
 -- `rows::less_from` meets its contract. The invariant: the first i words of the difference are written, and all else is as it was,
 -- so each word is read before its own turn writes it. Assumes nothing.
 use mathlib.Core.Path.{refl, ap}
-use Prim.Native.Nat.{ℕ, ◌+◌, ◌-◌, ◌≤◌}
+use Prim.Native.Nat.{ℕ, ◌+◌}
 use native.Mathlib.Omega.{arith}
 use lib.ListN.{get_or}
-use Rattle.rows.specs.Row.{row, less_row, less}
-use Rattle.rows.proofs.Fill.{Filled, zip_start, zip_old, zip_more, zip_all}
+use Rattle.rows.specs.Row.{less}
+use Rattle.rows.proofs.Fill.{zip_start, zip_old, zip_more, zip_all}
 use Rattle.rows.proofs.less_from.Goals as goal
 
 pub loop-i-init : goal.loop-i-init

@@ -1,11 +1,8 @@
 -- `rows::less_from` meets its contract. The invariant: the first i words of the difference are written, and all else is as it was,
 -- so each word is read before its own turn writes it. Assumes nothing.
-use mathlib.Core.Path.{refl, ap}
-use Prim.Native.Nat.{ℕ, ◌+◌, ◌-◌, ◌≤◌}
-use native.Mathlib.Omega.{arith}
-use lib.ListN.{get_or}
-use Rattle.rows.specs.Row.{row, less_row, less}
-use Rattle.rows.proofs.Fill.{Filled, zip_start, zip_old, zip_more, zip_all}
+use Prim.Native.Nat.{◌≤◌}
+use Rattle.rows.specs.Row.{row, less_row}
+use Rattle.rows.proofs.Fill.{Filled}
 use Rattle.rows.proofs.less_from.Given as goal
 
 abbrev pub invariant-loop-i : goal.invariant-loop-i

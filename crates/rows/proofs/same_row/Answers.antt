@@ -1,10 +1,8 @@
 -- `rows::same_row` meets its contract. The invariant: the words passed are equal,
 -- so one unequal word tells the rows apart, and a loop that ends has compared them all. Assumes nothing.
-use mathlib.Core.Path.{◌≡◌, sym}
-use Prim.Native.Nat.{ℕ, ◌+◌, ◌-◌, ◌≤◌, ◌<◌}
+use mathlib.Core.Path.{sym}
 use native.Mathlib.Omega.{arith}
 use borrow.Author.Count.{below_more}
-use lib.ListN.{get_or}
 use Rattle.rows.proofs.Rows.{row_same, row_word_lem, same_refl, same_false}
 use Rattle.rows.proofs.same_row.Goals as goal
 

@@ -1,12 +1,11 @@
 -- `rows::union_from` meets its contract. The invariant: the first i words of the union are written, and all else is as it was,
 -- so each word is read before its own turn writes it. Assumes nothing.
 use mathlib.Core.Path.{refl, ap}
-use Prim.Native.Nat.{ℕ, ◌+◌, ◌-◌, ◌≤◌}
+use Prim.Native.Nat.{ℕ, ◌+◌}
 use native.Mathlib.Omega.{arith}
 use lib.ListN.{get_or}
 use lib.Bits.{bit_or}
-use Rattle.rows.specs.Row.{row, or_row}
-use Rattle.rows.proofs.Fill.{Filled, zip_start, zip_old, zip_more, zip_all}
+use Rattle.rows.proofs.Fill.{zip_start, zip_old, zip_more, zip_all}
 use Rattle.rows.proofs.union_from.Goals as goal
 
 pub loop-i-init : goal.loop-i-init

@@ -3,7 +3,6 @@
 use mathlib.Core.Path.{refl}
 use Rattle.rows.specs.Row.{digit, bit}
 use Rattle.storages.specs.Storage.{allows}
-use borrow.Author.Rules.{rules}
 use Rattle.storages.proofs.allows_region.Goals as goal
 
 pub returns : goal.returns

@@ -3,7 +3,6 @@
 use mathlib.Core.Path.{sym, ◌∙◌}
 use Rattle.fields.specs.Pick.{pick}
 use Rattle.storages.specs.Storage.{kind_matches}
-use borrow.Author.Rules.{rules}
 use borrow.Author.Tests.{eq-eqb, ne_eqb}
 use Rattle.storages.proofs.kind_matches.Goals as goal
 

@@ -1,7 +1,6 @@
 -- `opens_storage` meets its contract: the two tests are those of the definition, in its order.
 -- Assumes nothing.
 use mathlib.Core.Path.{sym}
-use borrow.Author.Rules.{rules}
 use borrow.Author.Tests.{lt-leb, le-leb}
 use Rattle.fields.specs.Pick.{pick_yes, pick_no}
 use Rattle.fields.specs.Record.{u8_at}

@@ -2,7 +2,6 @@
 -- Assumes nothing.
 use Rattle.fields.specs.Record.{u8_at, storage_in}
 use Rattle.storages.specs.Storage.{stored}
-use borrow.Author.Rules.{rules}
 use Rattle.storages.proofs.storage_at.Goals as goal
 
 pub returns : goal.returns

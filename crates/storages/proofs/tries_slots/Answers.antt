@@ -3,8 +3,7 @@
 use mathlib.Core.Path.{sym, ◌∙◌}
 use Rattle.fields.specs.Pick.{pick}
 use Rattle.storages.specs.Storage.{tries}
-use borrow.Author.Rules.{rules}
-use borrow.Author.Tests.{eq-eqb, ne_eqb, not-true, not-false}
+use borrow.Author.Tests.{eq-eqb, ne_eqb}
 use Rattle.storages.proofs.tries_slots.Goals as goal
 
 pub returns-then-not-is_unfixed : goal.returns-then-not-is_unfixed

@@ -1,6 +1,5 @@
 -- The numbers are read and judged. The verdict holds for every id, so for the one that stands in the record.
 -- Assumes nothing.
-use borrow.Author.Rules.{rules}
 use Rattle.fields.specs.Record.{u8_at, u16_at, abi_in}
 use Rattle.fields.proofs.ranges.abi_fits.Goals as goal
 

@@ -1,6 +1,5 @@
 -- The two arrays of the code are the lists of the definition, and the tests are its tests, in its order.
 -- Assumes nothing.
-use borrow.Author.Rules.{rules}
 use Rattle.fields.specs.Pick.{tests}
 use Rattle.fields.specs.Record.{fixed_fits, greatest_a, greatest_b}
 use Rattle.fields.proofs.ranges.fixed_fits.Goals as goal

@@ -1,6 +1,5 @@
 -- The tests are those of the definition, in its order; the entries of Switch and of TailCallIndirect compute to the constant's.
 -- Assumes nothing.
-use borrow.Author.Rules.{rules}
 use borrow.Author.Tests.{ne_eqb}
 use Rattle.fields.specs.Pick.{pick, times}
 use Rattle.fields.specs.Fields.{table, fields_of, end_fields_of, missing}

@@ -1,6 +1,5 @@
 -- The class is tested in the order of the definition; what `either` ensures is its choice between two shapes.
 -- Assumes nothing.
-use borrow.Author.Rules.{rules}
 use Rattle.fields.specs.Pick.{tests}
 use Rattle.fields.specs.Table.{takes_in}
 use Rattle.fields.proofs.table.takes_in.Goals as goal

@@ -1,6 +1,5 @@
 -- `units::append` meets its contract: it stores the word behind the units and puts the new unit at the front of its bucket's chain, which keeps
 -- the chains (`append_of`). Assumes nothing.
-use borrow.Author.Rules.{rules}
 use native.Mathlib.Omega.{arith}
 use Rattle.records.proofs.Chains.{append_of}
 use Rattle.records.proofs.buckets.append.Goals as goal

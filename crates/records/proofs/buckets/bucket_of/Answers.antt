@@ -2,7 +2,6 @@
 -- Assumes nothing.
 use mathlib.Core.Path.{refl}
 use native.Mathlib.Omega.{arith}
-use borrow.Author.Rules.{rules}
 use Rattle.records.specs.Mirror.{bucket_of}
 use Rattle.records.proofs.buckets.bucket_of.Goals as goal
 

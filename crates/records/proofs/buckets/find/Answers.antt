@@ -2,7 +2,7 @@
 -- The measure is `next`, since each link leads to a lower unit. Assumes nothing.
 use Prim.Native.Nat.{◌-◌}
 use native.Mathlib.Omega.{arith}
-use Rattle.records.proofs.Chains.{Seeking, seek_start, seek_on, seek_found, seek_none}
+use Rattle.records.proofs.Chains.{seek_start, seek_on, seek_found, seek_none}
 use Rattle.records.proofs.buckets.find.Goals as goal
 
 pub bucket_of-requires : goal.bucket_of-requires

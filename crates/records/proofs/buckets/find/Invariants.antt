@@ -1,8 +1,6 @@
 -- `units::find` meets its contract. The loop's invariant is `Seeking`: the walk stands in the word's bucket, and the word is not at `next` or above.
 -- The measure is `next`, since each link leads to a lower unit. Assumes nothing.
-use Prim.Native.Nat.{◌-◌}
-use native.Mathlib.Omega.{arith}
-use Rattle.records.proofs.Chains.{Seeking, seek_start, seek_on, seek_found, seek_none}
+use Rattle.records.proofs.Chains.{Seeking}
 use Rattle.records.proofs.buckets.find.Given as goal
 
 abbrev pub invariant-loop-next : goal.invariant-loop-next

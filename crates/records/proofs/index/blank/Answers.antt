@@ -1,11 +1,9 @@
 -- Each turn blanks one number more, and leaves those before it; a table that is blank at every number is the bare one.
 -- The measure is what is left of the 256 numbers.
-use mathlib.Core.Path.{◌≡◌}
-use Prim.Native.Nat.{ℕ, ◌-◌, ◌≤◌, ◌<◌}
-use lib.ListN.{length, length-set}
+use lib.ListN.{length-set}
 use native.Mathlib.Omega.{arith}
 use borrow.Author.Rules.{rules}
-use Rattle.records.proofs.Entries.{Blank, blank_on, bare_is}
+use Rattle.records.proofs.Entries.{blank_on, bare_is}
 use Rattle.records.proofs.index.blank.Goals as goal
 
 pub loop-i-init : goal.loop-i-init

@@ -2,10 +2,8 @@
 -- The measure is what is left of the 256 numbers.
 use mathlib.Core.Path.{◌≡◌}
 use Prim.Native.Nat.{ℕ, ◌-◌, ◌≤◌, ◌<◌}
-use lib.ListN.{length, length-set}
-use native.Mathlib.Omega.{arith}
-use borrow.Author.Rules.{rules}
-use Rattle.records.proofs.Entries.{Blank, blank_on, bare_is}
+use lib.ListN.{length}
+use Rattle.records.proofs.Entries.{Blank}
 use Rattle.records.proofs.index.blank.Given as goal
 
 abbrev pub invariant-loop-i : goal.invariant-loop-i

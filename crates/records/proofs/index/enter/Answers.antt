@@ -2,7 +2,6 @@
 -- A place and a count are small enough for an entry.
 use native.Mathlib.Omega.{arith}
 use lib.ListN.{length-set}
-use borrow.Author.Rules.{rules}
 use Rattle.records.proofs.index.enter.Goals as goal
 
 pub bounds-table-n-2 : goal.bounds-table-n-2

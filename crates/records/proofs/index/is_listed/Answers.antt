@@ -2,7 +2,6 @@
 -- Each way out answers as the definition does.
 use Rattle.fields.specs.Pick.{tests}
 use Rattle.records.specs.Index.{listed}
-use borrow.Author.Rules.{rules}
 use Rattle.records.proofs.index.is_listed.Goals as goal
 
 pub returns-then-table-n : goal.returns-then-table-n

@@ -4,7 +4,6 @@ use mathlib.Core.Path.{refl, sym, ap}
 use Prim.Native.Nat.{ℕ, ◌+◌}
 use Rattle.records.specs.declared.reader.Taken.TheVariants.{Next}
 use Rattle.records.proofs.Held.{named_of, units_of_lem, holds_number}
-use borrow.Author.Rules.{rules}
 use Rattle.records.proofs.naming.admit_immediate.Goals as goal
 
 pub returns : goal.returns

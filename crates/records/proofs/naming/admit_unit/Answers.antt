@@ -5,7 +5,6 @@ use borrow.Author.Tests.{ltb-true}
 use Rattle.fields.proofs.Front.{and_both}
 use Rattle.records.proofs.Held.{declared_is}
 use Rattle.records.proofs.Comings.{unit_undeclared, unit_declared}
-use borrow.Author.Rules.{rules}
 use Rattle.records.proofs.naming.admit_unit.Goals as goal
 
 pub word_of-word-requires : goal.word_of-word-requires

@@ -8,7 +8,6 @@ use lib.ListN.{length}
 use Rattle.records.proofs.Lists.{found_known, found_number, found_none, units_more, units_room}
 use Rattle.records.proofs.Held.{named_of, units_of_lem, holds_number}
 use Rattle.records.proofs.Comings.{word_known, word_full, word_new}
-use borrow.Author.Rules.{rules}
 use Rattle.records.proofs.naming.admit_word.Goals as goal
 
 pub returns-then-found-lt512 : goal.returns-then-found-lt512

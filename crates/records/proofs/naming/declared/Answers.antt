@@ -1,7 +1,6 @@
 -- An id of 256 or more is past the row, and a lower one is looked up in it.
 -- So the answer is the two tests together.
 use Rattle.fields.specs.Pick.{tests}
-use borrow.Author.Rules.{rules}
 use Rattle.records.proofs.naming.declared.Goals as goal
 
 pub returns-then-id-ge256 : goal.returns-then-id-ge256

@@ -3,7 +3,6 @@
 use Prim.Native.Nat.{◌+◌}
 use native.Mathlib.Omega.{arith}
 use borrow.Author.Tests.{eq-eqb, ne_eqb}
-use borrow.Author.Rules.{rules}
 use Rattle.fields.specs.Pick.{pick}
 use Rattle.fields.specs.Table.{lacks_in}
 use Rattle.records.proofs.pending.lacks_after.Goals as goal

@@ -1,6 +1,5 @@
 -- `pending::open_at` meets its contract: the highest byte of an entry is the number of missing operands, and what is below it is the row.
 -- Assumes nothing.
-use borrow.Author.Rules.{rules}
 use Rattle.records.proofs.Pendings.{open_of}
 use Rattle.records.proofs.pending.open_at.Goals as goal
 

@@ -1,6 +1,5 @@
 -- `pending::with_given` meets its contract: the numbers that its callees give are those of the list with one field more (`given_of`).
 -- A field has at most 16 operands, so one more fits a byte. Assumes nothing.
-use borrow.Author.Rules.{rules}
 use native.Mathlib.Omega.{arith}
 use Rattle.records.proofs.Pendings.{given_of, seen_most_lem}
 use Rattle.records.proofs.pending.with_given.Goals as goal

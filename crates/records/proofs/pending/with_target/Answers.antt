@@ -1,6 +1,5 @@
 -- `pending::with_target` meets its contract: one target more, and the other numbers as they were.
 -- Assumes nothing.
-use borrow.Author.Rules.{rules}
 use Rattle.records.proofs.Pendings.{target_of}
 use Rattle.records.proofs.pending.with_target.Goals as goal
 

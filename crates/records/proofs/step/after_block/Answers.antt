@@ -1,7 +1,6 @@
 -- One block more, which stands here, and nothing open; every other number is the state's own.
 -- So the record that the code makes is that of the state with this block.
 use Rattle.records.proofs.Held.{reader_block}
-use borrow.Author.Rules.{rules}
 use Rattle.records.proofs.step.after_block.Goals as goal
 
 pub returns : goal.returns

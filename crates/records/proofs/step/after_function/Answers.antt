@@ -1,7 +1,6 @@
 -- One function more, no block of it yet, and nothing open; every other number is the state's own.
 -- So the record that the code makes is that of the state with this function.
 use Rattle.records.proofs.Held.{reader_function}
-use borrow.Author.Rules.{rules}
 use Rattle.records.proofs.step.after_function.Goals as goal
 
 pub returns : goal.returns

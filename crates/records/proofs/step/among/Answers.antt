@@ -1,8 +1,7 @@
 -- The loop's invariant: `hit` says whether the id stands among the first `i` blocks. One block more says so of `i + 1`.
 -- The measure is what is left of the count.
 use mathlib.Core.Path.{◌≡◌, ap, ◌∙◌}
-use mathlib.Core.Logic.{⊎_elim}
-use Prim.Native.Nat.{ℕ, ◌≤◌, ◌<◌, ◌-◌}
+use Prim.Native.Nat.{ℕ, ◌<◌}
 use native.Mathlib.Omega.{arith}
 use lib.ListN.{length, take}
 use Rattle.fields.specs.Pick.{has}

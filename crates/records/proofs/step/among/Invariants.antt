@@ -1,13 +1,9 @@
 -- The loop's invariant: `hit` says whether the id stands among the first `i` blocks. One block more says so of `i + 1`.
 -- The measure is what is left of the count.
-use mathlib.Core.Path.{◌≡◌, ap, ◌∙◌}
-use mathlib.Core.Logic.{⊎_elim}
-use Prim.Native.Nat.{ℕ, ◌≤◌, ◌<◌, ◌-◌}
-use native.Mathlib.Omega.{arith}
-use lib.ListN.{length, take}
+use mathlib.Core.Path.{◌≡◌}
+use Prim.Native.Nat.{◌≤◌, ◌-◌}
+use lib.ListN.{take}
 use Rattle.fields.specs.Pick.{has}
-use Rattle.records.proofs.Lists.{look_hit, look_miss}
-use borrow.Author.Rules.{rules}
 use Rattle.records.proofs.step.among.Given as goal
 
 abbrev pub invariant-loop-i : goal.invariant-loop-i

@@ -1,7 +1,6 @@
 -- The first stage is asked here, and the other two by `between_blocks`.
 -- So the answer is that one of the three tests holds.
 use Rattle.fields.specs.Pick.{tests}
-use borrow.Author.Rules.{rules}
 use Rattle.records.proofs.step.function_follows.Goals as goal
 
 pub returns-then-stage-eq-IN_STORAGES : goal.returns-then-stage-eq-IN_STORAGES

@@ -4,7 +4,6 @@ use mathlib.Core.Path.{sym, ◌∙◌}
 use native.Mathlib.Omega.{arith}
 use Rattle.fields.specs.Pick.{pick_yes, pick_no}
 use Rattle.records.proofs.TenKinds.{belongs_target, belongs_not}
-use borrow.Author.Rules.{rules}
 use Rattle.records.proofs.step.goes_on.Goals as goal
 
 pub returns-then-kind-eq8 : goal.returns-then-kind-eq8

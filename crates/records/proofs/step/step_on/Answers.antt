@@ -6,7 +6,6 @@ use Rattle.fields.specs.Record.{lengths, length_of}
 use Rattle.fields.proofs.ByKind.{kind_operand}
 use Rattle.records.proofs.Comings.{taken_other, step_operand}
 use Rattle.records.proofs.TenKinds.{long_at}
-use borrow.Author.Rules.{rules}
 use Rattle.records.proofs.step.step_on.Goals as goal
 
 pub take_operand-requires : goal.take_operand-requires

@@ -7,7 +7,6 @@ use Rattle.fields.proofs.ByKind.{kind_abi}
 use Rattle.records.proofs.Held.{now_of, place_of, block_of_lem, cut_at}
 use Rattle.records.proofs.Comings.{taken_other, step_open, step_cut, step_taken}
 use Rattle.records.proofs.TenKinds.{long_at}
-use borrow.Author.Rules.{rules}
 use Rattle.records.proofs.step.step_other.Goals as goal
 
 pub returns-then-cuts : goal.returns-then-cuts

@@ -5,7 +5,6 @@ use Rattle.fields.specs.Record.{abi, abi_in, u8_at}
 use Rattle.records.specs.Step.{admit}
 use Rattle.records.proofs.Held.{stage_is, stage_not}
 use Rattle.records.proofs.Comings.{comes_order, comes_range, comes_admit, unit_as}
-use borrow.Author.Rules.{rules}
 use Rattle.records.proofs.step.take_abi.Goals as goal
 
 pub returns-then-c-ne-IN_ABI : goal.returns-then-c-ne-IN_ABI

@@ -8,7 +8,6 @@ use Rattle.fields.specs.Record.{block, u16_at}
 use Rattle.records.proofs.Lists.{front_answer}
 use Rattle.records.proofs.Held.{stage_between, blocks_of_lem, holds_block}
 use Rattle.records.proofs.Comings.{comes_order, comes_admit, block_again, block_limit, block_next}
-use borrow.Author.Rules.{rules}
 use Rattle.records.proofs.step.take_block.Goals as goal
 
 pub returns-then-among : goal.returns-then-among

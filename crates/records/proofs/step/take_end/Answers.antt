@@ -6,7 +6,6 @@ use Rattle.records.specs.Step.{nothing, admit}
 use Rattle.records.specs.declared.reader.Taken.TheVariants.{Next}
 use Rattle.records.proofs.Held.{stage_between, holds_opened}
 use Rattle.records.proofs.Comings.{comes_order, comes_admit}
-use borrow.Author.Rules.{rules}
 use Rattle.records.proofs.step.take_end.Goals as goal
 
 pub returns-then-between_blocks : goal.returns-then-between_blocks

@@ -7,7 +7,6 @@ use native.Mathlib.Omega.{arith}
 use Rattle.fields.specs.Record.{function, u8_at}
 use Rattle.records.proofs.Held.{stage_follows, functions_of, entry_answer, enters_new}
 use Rattle.records.proofs.Comings.{comes_order, comes_admit, function_again, function_limit, function_next}
-use borrow.Author.Rules.{rules}
 use Rattle.records.proofs.step.take_function.Goals as goal
 
 pub overflow_cast-number : goal.overflow_cast-number

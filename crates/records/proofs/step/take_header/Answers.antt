@@ -1,7 +1,6 @@
 -- A header stands at the start alone and its numbers are in range; then only the stage changes, and no list.
 -- Each other way out is the refusal of that test.
 use mathlib.Core.Path.{sym, ap, ◌∙◌}
-use borrow.Author.Rules.{rules}
 use Rattle.fields.specs.Record.{header_at}
 use Rattle.records.specs.Step.{admit}
 use Rattle.records.specs.declared.reader.Taken.TheVariants.{Next}

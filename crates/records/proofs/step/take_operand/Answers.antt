@@ -8,7 +8,6 @@ use Rattle.records.specs.Step.{with_given, operand_fits}
 use Rattle.records.proofs.Counts.{field_late, field_inside}
 use Rattle.records.proofs.Held.{now_of, targets_is, targets_not, reader_kept, holds_opened}
 use Rattle.records.proofs.Comings.{comes_order, comes_range, comes_admit, operand_none, operand_unit, unit_as}
-use borrow.Author.Rules.{rules}
 use Rattle.records.proofs.step.take_operand.Goals as goal
 
 pub returns-then-o-ne0 : goal.returns-then-o-ne0

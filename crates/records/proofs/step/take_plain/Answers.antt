@@ -6,7 +6,6 @@ use Rattle.fields.specs.Record.{lengths, length_of, header_at, instruction_at, t
 use Rattle.fields.proofs.ByKind.{kind_header, kind_storage, kind_function, kind_block, kind_instruction, kind_terminator, kind_target, kind_end}
 use Rattle.records.proofs.Comings.{taken_as, taken_other}
 use Rattle.records.proofs.TenKinds.{long_at, kind_nine}
-use borrow.Author.Rules.{rules}
 use Rattle.records.proofs.step.take_plain.Goals as goal
 
 pub take_header-requires : goal.take_header-requires

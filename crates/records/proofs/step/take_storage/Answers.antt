@@ -5,7 +5,6 @@ use Rattle.fields.specs.Record.{storage, storage_in}
 use Rattle.records.proofs.Lists.{row_word_lem, row_answer}
 use Rattle.records.proofs.Held.{stage_is, stage_not, id_low_lem, reader_storage, holds_storage}
 use Rattle.records.proofs.Comings.{comes_order, comes_range, comes_admit, storage_again, storage_next}
-use borrow.Author.Rules.{rules}
 use Rattle.records.proofs.step.take_storage.Goals as goal
 
 pub returns-then-c-ne-IN_STORAGES : goal.returns-then-c-ne-IN_STORAGES

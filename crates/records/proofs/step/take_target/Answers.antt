@@ -6,7 +6,6 @@ use Rattle.records.specs.Step.{with_target, admit}
 use Rattle.records.specs.declared.reader.Taken.TheVariants.{Next}
 use Rattle.records.proofs.Held.{now_of, targets_more, targets_full, reader_kept, holds_opened}
 use Rattle.records.proofs.Comings.{comes_order, comes_admit}
-use borrow.Author.Rules.{rules}
 use Rattle.records.proofs.step.take_target.Goals as goal
 
 pub returns-then-o : goal.returns-then-o

@@ -8,7 +8,6 @@ use Rattle.records.specs.declared.reader.Taken.TheVariants.{Next}
 use Rattle.fields.proofs.TableLaws.{end_fields_short}
 use Rattle.records.proofs.Held.{stage_is, stage_not, opened_as, holds_opened}
 use Rattle.records.proofs.Comings.{comes_order, comes_range, comes_admit}
-use borrow.Author.Rules.{rules}
 use Rattle.records.proofs.step.take_terminator.Goals as goal
 
 pub returns-then-c-ne-IN_BLOCK : goal.returns-then-c-ne-IN_BLOCK

@@ -1,12 +1,10 @@
 -- Some state of the definitions stands behind the code's numbers and words all along (`Reading`), so that each way out answers as the definitions do.
 -- The measure is what is left of the file.
-use mathlib.Core.Path.{◌≡◌, refl}
-use Prim.Native.Nat.{◌≤◌, ◌-◌}
-use lib.ListN.{length}
+use mathlib.Core.Path.{refl}
 use Rattle.fields.specs.Record.{u8_at}
 use borrow.Author.Rules.{rules}
 use native.Mathlib.Omega.{arith}
-use Rattle.records.proofs.Reading.{Reading, at_most, reading_start, reading_sane, kind_low, not_whole, whole_kind, reading_fault, reading_refused, reading_on, reading_done, reading_open}
+use Rattle.records.proofs.Reading.{at_most, reading_start, reading_sane, kind_low, not_whole, whole_kind, reading_fault, reading_refused, reading_on, reading_done, reading_open}
 use Rattle.records.proofs.walk.walk.Goals as goal
 
 pub loop-at-init : goal.loop-at-init

@@ -1,6 +1,5 @@
 -- The effect of a step needs its kind, its number and its sub number alone, which are the first bytes of its record.
 -- No operand and no target has a say in it.
-use borrow.Author.Rules.{rules}
 use Rattle.units.proofs.Asking.{effect_yes, effect_no}
 use Rattle.units.proofs.ask.effect_at.Goals as goal
 

@@ -1,10 +1,8 @@
 -- The row holds the storages of the numbers passed so far, so that at the end it holds those of all 512.
 -- The measure is how many numbers are left.
 use mathlib.Core.Path.{◌≡◌, sym, ◌∙◌}
-use mathlib.Core.Logic.{⊎_elim}
-use Prim.Native.Nat.{◌+◌, ◌-◌, ◌≤◌, ◌<◌}
+use Prim.Native.Nat.{◌+◌, ◌<◌}
 use native.Mathlib.Omega.{arith}
-use lib.ListN.{length}
 use borrow.Author.Rules.{rules}
 use Rattle.rows.specs.Row.{pack}
 use Rattle.fields.specs.Pick.{has}

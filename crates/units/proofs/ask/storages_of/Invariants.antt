@@ -1,15 +1,11 @@
 -- The row holds the storages of the numbers passed so far, so that at the end it holds those of all 512.
 -- The measure is how many numbers are left.
-use mathlib.Core.Path.{◌≡◌, sym, ◌∙◌}
-use mathlib.Core.Logic.{⊎_elim}
-use Prim.Native.Nat.{◌+◌, ◌-◌, ◌≤◌, ◌<◌}
-use native.Mathlib.Omega.{arith}
+use mathlib.Core.Path.{◌≡◌}
+use Prim.Native.Nat.{◌-◌, ◌≤◌}
 use lib.ListN.{length}
-use borrow.Author.Rules.{rules}
 use Rattle.rows.specs.Row.{pack}
 use Rattle.fields.specs.Pick.{has}
 use Rattle.units.specs.Seek.{storages_below}
-use Rattle.units.proofs.Storages.{storages_start, storages_no, storages_yes, storages_end, storage_part, four}
 use Rattle.units.proofs.ask.storages_of.Given as goal
 
 abbrev pub invariant-loop-n : goal.invariant-loop-n

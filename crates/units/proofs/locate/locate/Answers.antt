@@ -1,15 +1,10 @@
 -- What the definition finds from the front on is what it finds from the cursor on (`Going`), in the function behind the last function record.
 -- The measure is what is left of the file.
-use mathlib.Core.Path.{◌≡◌, refl}
-use mathlib.Core.List.{List}
-use Prim.Native.Nat.{ℕ, ◌-◌, ◌*◌, ◌≤◌}
+use mathlib.Core.Path.{refl}
 use native.Mathlib.Omega.{arith}
-use lib.ListN.{length}
 use borrow.Author.Rules.{rules}
-use Rattle.fields.specs.Edition.{one}
-use Rattle.records.specs.Check.{units, check}
 use Rattle.records.proofs.Reading.{at_most}
-use Rattle.units.proofs.Finding.{Going, going_start, going_no_kind, going_no_body, going_away, going_here, going_on, going_into, going_end, step_kind, no_step_kind, brought_room, step_room}
+use Rattle.units.proofs.Finding.{going_start, going_no_kind, going_no_body, going_away, going_here, going_on, going_into, going_end, step_kind, no_step_kind, brought_room, step_room}
 use Rattle.units.proofs.locate.locate.Goals as goal
 
 pub loop-at-init : goal.loop-at-init

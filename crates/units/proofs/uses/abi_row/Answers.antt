@@ -1,11 +1,10 @@
 -- What is left to mark, onto the row so far, comes to what the contract says; the records at a place of the tail are one more and those behind it.
 -- The measure is what is left of the tail.
-use mathlib.Core.Path.{◌≡◌, refl, ap, ◌∙◌}
-use Prim.Native.Nat.{◌+◌, ◌*◌, ◌-◌, ◌≤◌}
+use mathlib.Core.Path.{refl, ap, ◌∙◌}
 use native.Mathlib.Omega.{arith}
 use lib.ListN.{length, drop}
 use borrow.Author.Rules.{rules}
-use Rattle.units.specs.Marks.{marks, roles_in, wanted_by}
+use Rattle.units.specs.Marks.{wanted_by}
 use Rattle.units.proofs.Filling.{opened, seven_fits, roles_on, roles_none, length_jotted, marks_on, marks_end}
 use Rattle.units.proofs.uses.abi_row.Goals as goal
 

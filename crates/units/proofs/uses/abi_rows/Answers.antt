@@ -1,7 +1,6 @@
 -- A step that takes no ABI records leaves both rows as they are, and a terminator leaves that of writes.
 -- Elsewhere the records stand behind the cursor that was chosen, and the walk over them marks the row as the definition says.
 use mathlib.Core.Path.{sym, ◌∙◌}
-use borrow.Author.Rules.{rules}
 use Rattle.fields.specs.Pick.{pick_yes, pick_no}
 use Rattle.units.specs.Marks.{read_abis, written_abis}
 use Rattle.units.proofs.Using.{read_sound, rest_fits, reads_abis, writes_abis}

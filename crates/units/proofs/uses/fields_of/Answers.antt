@@ -1,7 +1,6 @@
 -- The table's entry holds the row of the step below the count of its operands.
 -- So its remainder is that row's word.
 use Rattle.units.proofs.Using.{end_row_of, row_of_lem}
-use borrow.Author.Rules.{rules}
 use Rattle.units.proofs.uses.fields_of.Goals as goal
 
 pub returns-then-ends : goal.returns-then-ends

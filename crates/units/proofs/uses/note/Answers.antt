@@ -1,7 +1,6 @@
 -- By cases, as the definition goes: a unit's number is put in where it is wanted.
 -- A number past the last leaves the row.
 use mathlib.Core.Path.{sym, ◌∙◌}
-use borrow.Author.Rules.{rules}
 use Rattle.units.proofs.Filling.{jotted_low, jotted_past}
 use Rattle.units.proofs.uses.note.Goals as goal
 

@@ -2,7 +2,6 @@
 -- A number past the last leaves both rows.
 use mathlib.Core.Path.{sym}
 use Rattle.units.proofs.Filling.{jotted_past, jotted_read, jotted_written, jotted_end}
-use borrow.Author.Rules.{rules}
 use Rattle.units.proofs.uses.note_operand.Goals as goal
 
 pub returns-then-n-ge512 : goal.returns-then-n-ge512

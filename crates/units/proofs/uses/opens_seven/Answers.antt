@@ -1,7 +1,6 @@
 -- The two tests are those of the definition, in its order.
 -- Where the tail is too short, the first decides.
 use mathlib.Core.Path.{sym}
-use borrow.Author.Rules.{rules}
 use borrow.Author.Tests.{lt-leb, le-leb}
 use Rattle.fields.specs.Pick.{pick_yes, pick_no}
 use Rattle.fields.specs.Record.{u8_at}

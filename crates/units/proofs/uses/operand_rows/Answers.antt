@@ -2,11 +2,11 @@
 -- The measure is what is left of the tail.
 use mathlib.Core.Path.{◌≡◌, refl, ap, ◌∙◌}
 use mathlib.Core.List.{[], ◌∷◌}
-use Prim.Native.Nat.{◌+◌, ◌*◌, ◌-◌, ◌≤◌}
+use Prim.Native.Nat.{◌+◌}
 use native.Mathlib.Omega.{arith}
 use lib.ListN.{length, get_or, drop}
 use borrow.Author.Rules.{rules}
-use Rattle.units.specs.Marks.{marks, fields_in, read_in, written_in}
+use Rattle.units.specs.Marks.{fields_in, read_in, written_in}
 use Rattle.units.proofs.Filling.{opened, seven_fits, fields_on, fields_none, length_jotted, marks_on, marks_end}
 use Rattle.units.proofs.uses.operand_rows.Goals as goal
 

@@ -1,13 +1,9 @@
 -- What is left to mark, onto the rows so far, comes to what the contract says; so does the number of operands met with that of those left.
 -- The measure is what is left of the tail.
-use mathlib.Core.Path.{◌≡◌, refl, ap, ◌∙◌}
-use mathlib.Core.List.{[], ◌∷◌}
+use mathlib.Core.Path.{◌≡◌}
 use Prim.Native.Nat.{◌+◌, ◌*◌, ◌-◌, ◌≤◌}
-use native.Mathlib.Omega.{arith}
-use lib.ListN.{length, get_or, drop}
-use borrow.Author.Rules.{rules}
+use lib.ListN.{length, drop}
 use Rattle.units.specs.Marks.{marks, fields_in, read_in, written_in}
-use Rattle.units.proofs.Filling.{opened, seven_fits, fields_on, fields_none, length_jotted, marks_on, marks_end}
 use Rattle.units.proofs.uses.operand_rows.Given as goal
 
 abbrev pub invariant-loop-reads : goal.invariant-loop-reads

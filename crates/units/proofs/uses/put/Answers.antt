@@ -1,7 +1,6 @@
 -- By cases, as the definition goes: what is wanted is put in.
 -- Else the row stays.
 use Rattle.fields.specs.Pick.{tests}
-use borrow.Author.Rules.{rules}
 use Rattle.units.proofs.uses.put.Goals as goal
 
 pub returns-then-wanted : goal.returns-then-wanted

@@ -4,7 +4,6 @@ use Prim.Native.Nat.{◌+◌, ◌<◌}
 use lib.ListN.{get_or}
 use lib.Seq.{get_or-drop}
 use native.Mathlib.Omega.{arith}
-use borrow.Author.Rules.{rules}
 use Rattle.units.proofs.Using.{operands_count, behind_operands, reads_law, writes_law}
 use Rattle.units.proofs.uses.uses_at.Goals as goal
 
