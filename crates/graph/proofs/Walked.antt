@@ -16,7 +16,7 @@ use Rattle.rows.proofs.Members.{get_or_none}
 use Rattle.fields.specs.Edition.{one}
 use Rattle.records.specs.Check.{units, check}
 use Rattle.records.specs.Outcome.{laid}
-use Rattle.fields.specs.Record.{Rec, function, record_at, u8_at, length_of, header_at, instruction_at, terminator_at}
+use Rattle.fields.specs.Record.{Rec, record_at, u8_at, length_of, header_at, instruction_at, terminator_at}
 use Rattle.records.specs.Program.{Function, Rest, put, put_step, program}
 use Rattle.fields.proofs.Front.{read_whole}
 use Rattle.fields.proofs.ByKind.{length_one, length_none, kind_header, kind_storage, kind_function, kind_abi, kind_block, kind_instruction, kind_operand, kind_terminator, kind_target, kind_end}

@@ -1,6 +1,6 @@
 -- Document 01, "What moves" (graph and copies) and "Refusal numbers" (buffers): the public operation graph as one outcome, the answer and the lent words
 -- for every input.
-use Rattle.std.specs.Prelude.{◌≡◌, Bool, List, [], ◌∷◌, ◌++◌, ℕ, zero, suc, ◌+◌, ◌*◌, ltb, length, drop}
+use Rattle.std.specs.Prelude.{◌≡◌, Bool, List, [], ◌∷◌, ◌++◌, ℕ, zero, suc, ◌*◌, ltb, length, drop}
 use Rattle.rows.specs.Row.{pack}
 use Rattle.fields.specs.Pick.{pick, ◌or◌}
 use Rattle.fields.specs.Edition.{Edition, one}

@@ -12,7 +12,7 @@ use lib.Seq.{drop-cons, get_or-take, get_or-drop, get_or-set_same, get_or-set_ot
 use Rattle.rows.specs.Row.{row, put}
 use Rattle.rows.proofs.Rows.{lt_or_ge, row_whole, row_put_same, row_put_other}
 use Rattle.fields.specs.Edition.{one}
-use Rattle.fields.specs.Record.{block, u16_at}
+use Rattle.fields.specs.Record.{u16_at}
 use Rattle.records.specs.Units.{number_in}
 use Rattle.records.specs.Check.{units, check}
 use Rattle.records.specs.Program.{Block, Rest, Function, program, block_of, put as put_rec}

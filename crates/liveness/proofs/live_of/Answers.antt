@@ -2,7 +2,6 @@
 -- Bytes are below 256, so a greater number has no function. Assumes nothing.
 use native.Mathlib.Omega.{arith}
 use Rattle.liveness.proofs.Answering.{lived_absent, lived_passes}
-use borrow.Author.Rules.{rules}
 use Rattle.liveness.proofs.live_of.Goals as goal
 
 pub returns-then-own-eq-NONE : goal.returns-then-own-eq-NONE

@@ -3,7 +3,6 @@
 use mathlib.Core.Path.{refl}
 use Prim.Native.Nat.{◌+◌}
 use native.Mathlib.Omega.{arith}
-use borrow.Author.Rules.{rules}
 use Rattle.liveness.proofs.own_of.Goals as goal
 
 pub overflow_cast-result : goal.overflow_cast-result

@@ -1,7 +1,6 @@
 -- `at_function` meets its contract: a whole function record is two bytes, of which the first is 2.
 -- Assumes nothing.
 use Rattle.graph.proofs.Walked.{next_past, next_cut, next_is}
-use borrow.Author.Rules.{rules}
 use Rattle.graph.proofs.walk.at_function.Goals as goal
 
 pub returns-then-file-at : goal.returns-then-file-at

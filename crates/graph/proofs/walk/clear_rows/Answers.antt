@@ -1,6 +1,5 @@
 -- The rows hold nothing for the blocks from `blocks` on, so that clearing those below clears all (`rows_blank`).
 -- Assumes nothing.
-use borrow.Author.Rules.{rules}
 use native.Mathlib.Omega.{arith}
 use Rattle.graph.proofs.Walked.{rows_blank}
 use Rattle.graph.proofs.walk.clear_rows.Goals as goal

@@ -2,7 +2,6 @@
 -- Assumes nothing.
 use native.Mathlib.Omega.{arith}
 use Rattle.graph.proofs.Stepping.{moved}
-use borrow.Author.Rules.{rules}
 use Rattle.graph.proofs.walk.move_live.Goals as goal
 
 pub returns : goal.returns

@@ -2,7 +2,6 @@
 -- Assumes nothing.
 use Rattle.fields.specs.Pick.{pick_yes, pick_no}
 use borrow.Author.Tests.{lt-ltb, le-ltb, eq-eqb, ne_eqb}
-use borrow.Author.Rules.{rules}
 use Rattle.graph.proofs.walk.note_address.Goals as goal
 
 pub returns-then-op-eq16 : goal.returns-then-op-eq16

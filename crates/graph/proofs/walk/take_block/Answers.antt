@@ -2,9 +2,8 @@
 -- Assumes nothing.
 use native.Mathlib.Omega.{arith}
 use borrow.Author.Rules.{rules}
-use Prim.Native.Nat.{◌≤◌, ◌-◌}
+use Prim.Native.Nat.{◌-◌}
 use mathlib.Core.Path.{refl, sym, ◌∙◌}
-use Rattle.graph.specs.Walking.{BlockTaken}
 use Rattle.graph.proofs.Stepping.{block_none, block_more, block_whole}
 use Rattle.graph.proofs.walk.take_block.Goals as goal
 

@@ -1,11 +1,7 @@
 -- `take_block` meets its contract. The invariant: the steps from entry i on are noted, the last first, and the live row is what is live before them.
 -- Assumes nothing.
-use native.Mathlib.Omega.{arith}
-use borrow.Author.Rules.{rules}
-use Prim.Native.Nat.{◌≤◌, ◌-◌}
-use mathlib.Core.Path.{refl, sym, ◌∙◌}
+use Prim.Native.Nat.{◌≤◌}
 use Rattle.graph.specs.Walking.{BlockTaken}
-use Rattle.graph.proofs.Stepping.{block_none, block_more, block_whole}
 use Rattle.graph.proofs.walk.take_block.Given as goal
 
 abbrev pub invariant-loop-i : goal.invariant-loop-i

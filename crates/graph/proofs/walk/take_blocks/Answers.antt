@@ -2,9 +2,7 @@
 -- Assumes nothing.
 use native.Mathlib.Omega.{arith}
 use borrow.Author.Rules.{rules}
-use Prim.Native.Nat.{◌≤◌, ◌-◌}
 use mathlib.Core.Path.{sym, ◌∙◌}
-use Rattle.graph.specs.Walking.{BlocksTaken}
 use Rattle.graph.proofs.Blocking.{blocks_none, blocks_more, blocks_all}
 use Rattle.graph.proofs.walk.take_blocks.Goals as goal
 

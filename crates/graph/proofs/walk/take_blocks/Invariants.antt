@@ -1,11 +1,7 @@
 -- `take_blocks` meets its contract. The invariant: the blocks below b are noted, in file order.
 -- Assumes nothing.
-use native.Mathlib.Omega.{arith}
-use borrow.Author.Rules.{rules}
 use Prim.Native.Nat.{◌≤◌, ◌-◌}
-use mathlib.Core.Path.{sym, ◌∙◌}
 use Rattle.graph.specs.Walking.{BlocksTaken}
-use Rattle.graph.proofs.Blocking.{blocks_none, blocks_more, blocks_all}
 use Rattle.graph.proofs.walk.take_blocks.Given as goal
 
 abbrev pub invariant-loop-b : goal.invariant-loop-b

@@ -1,17 +1,12 @@
 -- `take_each` meets its contract. The invariant: the functions before the cursor are noted, in file order, and the rows hold nothing for the blocks
 -- that the last of them does not have; each turn leaves one function less to come. The file is accepted, so that a function's record is followed by its own records.
-use native.Mathlib.Omega.{arith}
-use borrow.Author.Rules.{rules}
 use Prim.Native.Nat.{ℕ, ◌≤◌}
-use mathlib.Core.Path.{◌≡◌, sym, ap, subst, ◌∙◌}
+use mathlib.Core.Path.{◌≡◌}
 use mathlib.Core.List.{List}
 use lib.ListN.{length}
 use Rattle.units.specs.Along.{from, Sound}
-use Rattle.units.specs.declared.cursor.Cursor.{Cursor}
 use Rattle.passes.specs.Passes.{Held}
-use Rattle.passes.proofs.Passing.{blank_held}
 use Rattle.graph.specs.Walking.{Sized, Lent, Granted, Walked}
-use Rattle.graph.proofs.Walked.{blank_length, walked_none, next_owner, next_room, walked_more, next_less, walked_all}
 use Rattle.graph.proofs.walk.take_each.Given as goal
 
 abbrev pub invariant-loop-c : goal.invariant-loop-c

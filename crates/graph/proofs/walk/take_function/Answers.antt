@@ -2,7 +2,6 @@
 -- The function stands in an accepted file, so that every place the survey noted lies in it. Assumes nothing.
 use native.Mathlib.Omega.{arith}
 use Rattle.graph.proofs.Blocking.{owner_ordered, function_taken}
-use borrow.Author.Rules.{rules}
 use Rattle.graph.proofs.walk.take_function.Goals as goal
 
 pub survey-s-requires : goal.survey-s-requires

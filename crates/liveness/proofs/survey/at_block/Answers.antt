@@ -5,7 +5,6 @@ use mathlib.Core.Logic.{inl, inr}
 use mathlib.Core.Bool.{true≢false}
 use native.Mathlib.Omega.{arith}
 use borrow.Author.Tests.{eqb-true, eqb-false}
-use borrow.Author.Rules.{rules}
 use Rattle.liveness.proofs.survey.at_block.Goals as goal
 
 pub returns-then-b-ge-BLOCKS : goal.returns-then-b-ge-BLOCKS

@@ -2,12 +2,9 @@
 -- The measure is what is left of the file. Assumes nothing.
 use mathlib.Core.Path.{◌≡◌}
 use Prim.Native.Nat.{◌≤◌, ◌-◌}
-use borrow.Author.Rules.{rules}
-use native.Mathlib.Omega.{arith}
 use lib.ListN.{length}
 use Rattle.units.specs.Along.{Sound, Sane}
 use Rattle.liveness.specs.Walks.{Walked, Kind}
-use Rattle.liveness.proofs.Taking.{walked_none, walked_on, kind_there, kind_done}
 use Rattle.liveness.proofs.survey.block_records.Given as goal
 
 abbrev pub invariant-loop-kind : goal.invariant-loop-kind

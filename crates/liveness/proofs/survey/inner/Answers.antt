@@ -1,7 +1,6 @@
 -- A kind outside 5 to 8, and a record that is not there or is cut off, ends the steps and targets that come; a whole one of these kinds is the answer.
 -- Assumes nothing.
 use Rattle.liveness.proofs.Onward.{kind_past, kind_low, kind_late, kind_cut, kind_inner}
-use borrow.Author.Rules.{rules}
 use Rattle.liveness.proofs.survey.inner.Goals as goal
 
 pub returns-then-file-at : goal.returns-then-file-at

@@ -1,10 +1,7 @@
 -- The loop's invariant: the first i entries are numbers and the others as they were. A number is at most the count of ids, so it fits.
 -- The measure is what is left of the entries. Assumes nothing.
-use mathlib.Core.Path.{◌≡◌}
-use Prim.Native.Nat.{◌≤◌, ◌-◌}
 use borrow.Author.Rules.{rules}
-use lib.ListN.{length}
-use Rattle.liveness.proofs.Finding.{Renumbered, renumbered_none, renumbered_on, renumbered_all}
+use Rattle.liveness.proofs.Finding.{renumbered_none, renumbered_on, renumbered_all}
 use Rattle.liveness.proofs.survey.number_targets.Goals as goal
 
 pub loop-i-init : goal.loop-i-init

@@ -2,9 +2,8 @@
 -- The measure is what is left of the entries. Assumes nothing.
 use mathlib.Core.Path.{◌≡◌}
 use Prim.Native.Nat.{◌≤◌, ◌-◌}
-use borrow.Author.Rules.{rules}
 use lib.ListN.{length}
-use Rattle.liveness.proofs.Finding.{Renumbered, renumbered_none, renumbered_on, renumbered_all}
+use Rattle.liveness.proofs.Finding.{Renumbered}
 use Rattle.liveness.proofs.survey.number_targets.Given as goal
 
 abbrev pub invariant-loop-i : goal.invariant-loop-i

@@ -1,7 +1,6 @@
 -- A record that is not there, or is cut off, has nothing after it; a whole one stops the search or is passed over as its kind says.
 -- Assumes nothing.
 use Rattle.liveness.proofs.Onward.{from_past, from_cut, stopped_none, paced_none, paced_stop, paced_on}
-use borrow.Author.Rules.{rules}
 use Rattle.liveness.proofs.survey.pace.Goals as goal
 
 pub returns-then-file-at : goal.returns-then-file-at

@@ -1,8 +1,7 @@
 -- The loop's invariant: the id's place is i and its place among the ids from there on. Where it stands at i that place is 0, and at the end too.
 -- The measure is what is left of the ids. Assumes nothing.
 use Prim.Native.Nat.{◌-◌}
-use borrow.Author.Rules.{rules}
-use Rattle.liveness.proofs.Finding.{Searched, searched_start, searched_found, searched_on, searched_none}
+use Rattle.liveness.proofs.Finding.{Searched}
 use Rattle.liveness.proofs.survey.position.Given as goal
 
 abbrev pub invariant-loop-i : goal.invariant-loop-i

@@ -3,7 +3,6 @@
 use mathlib.Core.Path.{sym}
 use native.Mathlib.Omega.{arith}
 use Rattle.liveness.proofs.Keeping.{row_for_kept, row_for_late}
-use borrow.Author.Rules.{rules}
 use Rattle.liveness.proofs.survey.row_for.Goals as goal
 
 pub returns-then-s-lt-KEPT : goal.returns-then-s-lt-KEPT

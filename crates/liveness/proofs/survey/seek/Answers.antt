@@ -1,10 +1,6 @@
 -- The loop's invariant: the search has come from its cursor to the place, and the length at hand is that of the record there, or 0 where it stops.
 -- The measure is what is left of the file. Assumes nothing.
-use Prim.Native.Nat.{◌≤◌, ◌-◌}
-use borrow.Author.Rules.{rules}
 use native.Mathlib.Omega.{arith}
-use lib.ListN.{length}
-use Rattle.liveness.specs.Walks.{Paced, Came}
 use Rattle.liveness.proofs.Onward.{came_none, came_on, paced_fits, paced_brings, paced_end}
 use Rattle.liveness.proofs.survey.seek.Goals as goal
 

@@ -1,12 +1,8 @@
 -- The loop's invariant: so many blocks are read, as the definitions say of each, and the walk stands before the others. At its end all blocks are read.
 -- The measure is what is left of the file. Assumes nothing.
-use mathlib.Core.Path.{◌≡◌}
-use Prim.Native.Nat.{◌≤◌, ◌-◌}
 use borrow.Author.Rules.{rules}
 use native.Mathlib.Omega.{arith}
-use lib.ListN.{length, length-set}
-use Rattle.units.specs.Along.{Sound, Sane}
-use Rattle.liveness.specs.Walks.{Growing}
+use lib.ListN.{length-set}
 use Rattle.liveness.proofs.Surveying.{growing_start, growing_on, growing_given, growing_done}
 use Rattle.liveness.proofs.survey.survey.Goals as goal
 

@@ -2,12 +2,9 @@
 -- The measure is what is left of the file. Assumes nothing.
 use mathlib.Core.Path.{◌≡◌}
 use Prim.Native.Nat.{◌≤◌, ◌-◌}
-use borrow.Author.Rules.{rules}
-use native.Mathlib.Omega.{arith}
-use lib.ListN.{length, length-set}
+use lib.ListN.{length}
 use Rattle.units.specs.Along.{Sound, Sane}
 use Rattle.liveness.specs.Walks.{Growing}
-use Rattle.liveness.proofs.Surveying.{growing_start, growing_on, growing_given, growing_done}
 use Rattle.liveness.proofs.survey.survey.Given as goal
 
 abbrev pub invariant-loop-own : goal.invariant-loop-own

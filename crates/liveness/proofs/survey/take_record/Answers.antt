@@ -4,7 +4,6 @@ use mathlib.Core.Path.{◌∙◌}
 use native.Mathlib.Omega.{arith}
 use Rattle.liveness.proofs.Keeping.{lent_eight}
 use Rattle.liveness.proofs.Taking.{target_fits, step_fits, taken_target, taken_operand, taken_step}
-use borrow.Author.Rules.{rules}
 use Rattle.liveness.proofs.survey.take_record.Goals as goal
 
 pub u16_at-requires : goal.u16_at-requires

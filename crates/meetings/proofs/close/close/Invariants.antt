@@ -1,8 +1,6 @@
 -- `close` meets its contract. The invariant: the storages still to come make of the graph now what all of them make of it at the start.
 -- Assumes nothing.
-use Prim.Native.Nat.{◌-◌}
-use native.Mathlib.Omega.{arith}
-use Rattle.meetings.proofs.Closes.{Closing, close_start, close_on, close_end}
+use Rattle.meetings.proofs.Closes.{Closing}
 use Rattle.meetings.proofs.close.close.Given as goal
 
 abbrev pub invariant-loop-i : goal.invariant-loop-i

@@ -1,13 +1,9 @@
 -- `close_row` meets its contract. The invariant: the units of the words still to come make of the graph now what all of them make of it at the start. An
 -- empty row has no unit, so there the graph stays. Assumes nothing.
-use mathlib.Core.Path.{refl}
 use mathlib.Core.List.{List}
-use Prim.Native.Nat.{ℕ, ◌-◌}
-use native.Mathlib.Omega.{arith}
-use Rattle.units.specs.Sets.{each}
+use Prim.Native.Nat.{ℕ}
 use Rattle.meetings.specs.Closing.{linked, apart_all}
-use Rattle.meetings.proofs.Walks.{Rowing, row_start, row_on, row_end}
-use Rattle.meetings.proofs.Closes.{link_none}
+use Rattle.meetings.proofs.Walks.{Rowing}
 use Rattle.meetings.proofs.close.close_row.Given as goal
 
 abbrev pub invariant-loop-n : goal.invariant-loop-n

@@ -1,10 +1,7 @@
 -- `close_word` meets its contract. The invariant: what is left of the word is that of its bits which are still ahead, and the units still ahead make of the
 -- graph now what those from the word's start on make of it at the start. Assumes nothing.
-use mathlib.Core.List.{List}
-use Prim.Native.Nat.{ℕ, ◌-◌}
 use native.Mathlib.Omega.{arith}
-use Rattle.meetings.specs.Closing.{linked, apart_all}
-use Rattle.meetings.proofs.Walks.{Wording, word_start, word_fits, word_on, word_end}
+use Rattle.meetings.proofs.Walks.{word_start, word_fits, word_on, word_end}
 use Rattle.meetings.proofs.Closes.{link_next}
 use Rattle.meetings.proofs.close.close_word.Goals as goal
 

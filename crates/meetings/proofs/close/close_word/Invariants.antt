@@ -2,10 +2,8 @@
 -- graph now what those from the word's start on make of it at the start. Assumes nothing.
 use mathlib.Core.List.{List}
 use Prim.Native.Nat.{ℕ, ◌-◌}
-use native.Mathlib.Omega.{arith}
 use Rattle.meetings.specs.Closing.{linked, apart_all}
-use Rattle.meetings.proofs.Walks.{Wording, word_start, word_fits, word_on, word_end}
-use Rattle.meetings.proofs.Closes.{link_next}
+use Rattle.meetings.proofs.Walks.{Wording}
 use Rattle.meetings.proofs.close.close_word.Given as goal
 
 abbrev pub invariant-loop-left : goal.invariant-loop-left

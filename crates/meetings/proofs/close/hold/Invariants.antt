@@ -1,12 +1,10 @@
 -- `hold` meets its contract. The invariant: the records still ahead make of the graph now what all of them make of it at the start.
 -- Assumes nothing.
 use Prim.Native.Nat.{◌-◌}
-use native.Mathlib.Omega.{arith}
 use lib.ListN.{length}
 use Rattle.storages.specs.File.{declared}
-use Rattle.storages.proofs.Declared.{opened, opens_inside}
-use Rattle.meetings.specs.Closing.{own_pairs, hold_pairs, held_by}
-use Rattle.meetings.proofs.Closes.{Storing, store_start, store_on, store_end}
+use Rattle.meetings.specs.Closing.{own_pairs}
+use Rattle.meetings.proofs.Closes.{Storing}
 use Rattle.meetings.proofs.close.hold.Given as goal
 
 abbrev pub invariant-loop-graph : goal.invariant-loop-graph

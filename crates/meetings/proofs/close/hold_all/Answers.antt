@@ -1,11 +1,8 @@
 -- `hold_all` meets its contract. The invariant: the records still ahead make of the graph now what all of them make of it at the start.
 -- Assumes nothing.
-use Prim.Native.Nat.{◌-◌}
 use native.Mathlib.Omega.{arith}
-use lib.ListN.{length}
-use Rattle.meetings.specs.Closing.{own_pair}
 use Rattle.storages.proofs.Declared.{opened, opens_inside}
-use Rattle.meetings.proofs.Closes.{Storing, store_start, store_on, store_end}
+use Rattle.meetings.proofs.Closes.{store_start, store_on, store_end}
 use Rattle.meetings.proofs.close.hold_all.Goals as goal
 
 pub loop-graph-init : goal.loop-graph-init

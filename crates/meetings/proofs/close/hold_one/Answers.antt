@@ -1,7 +1,6 @@
 -- `hold_one` meets its contract: the two tests are those of the definition, in its order.
 -- Assumes nothing.
 use mathlib.Core.Path.{sym, ◌∙◌}
-use borrow.Author.Rules.{rules}
 use borrow.Author.Tests.{lt-ltb, le-ltb}
 use Rattle.fields.proofs.Front.{and_make}
 use Rattle.meetings.proofs.Closes.{neither, not_second, linked_no, linked_yes}

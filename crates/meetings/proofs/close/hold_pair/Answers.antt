@@ -1,7 +1,6 @@
 -- `hold_pair` meets its contract: the two numbers are the id and the owner of the record.
 -- Assumes nothing.
 use mathlib.Core.Path.{◌∙◌}
-use borrow.Author.Rules.{rules}
 use Rattle.meetings.proofs.Closes.{own_pair_lem}
 use Rattle.meetings.proofs.close.hold_pair.Goals as goal
 

@@ -1,8 +1,6 @@
 -- `ids_below` meets its contract. The invariant: the number so far is above the ids of the storages of all units gone through.
 -- Assumes nothing.
-use Prim.Native.Nat.{◌-◌, ◌≤◌}
 use native.Mathlib.Omega.{arith}
-use Rattle.meetings.specs.Closing.{Above}
 use Rattle.meetings.proofs.Closes.{above_on, above_all}
 use Rattle.meetings.proofs.close.ids_below.Goals as goal
 

@@ -1,6 +1,5 @@
 -- `link` meets its contract: two ids put each into the row of the other, one id puts nothing.
 -- Assumes nothing.
-use borrow.Author.Rules.{rules}
 use Rattle.meetings.proofs.Closes.{link_same, link_both}
 use Rattle.meetings.proofs.close.link.Goals as goal
 

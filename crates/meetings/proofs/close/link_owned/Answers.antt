@@ -1,6 +1,5 @@
 -- `link_owned` meets its contract: the two tests are those of the pair, in its order.
 -- Assumes nothing.
-use borrow.Author.Rules.{rules}
 use borrow.Author.Tests.{eq-eqb, ne_eqb, lt-ltb, le-ltb}
 use Rattle.fields.proofs.Front.{and_make}
 use Rattle.meetings.proofs.Closes.{neither, not_second, linked_no, linked_yes}

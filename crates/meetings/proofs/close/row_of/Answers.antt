@@ -1,6 +1,5 @@
 -- `row_of` meets its contract: eight words from the base on are the row there.
 -- Assumes nothing.
-use borrow.Author.Rules.{rules}
 use Rattle.meetings.proofs.Closes.{row_part}
 use Rattle.meetings.proofs.close.row_of.Goals as goal
 

@@ -1,6 +1,5 @@
 -- `meet` meets its contract: what the step wants is poured into the rows of the storages that it writes.
 -- Assumes nothing.
-use borrow.Author.Rules.{rules}
 use Rattle.meetings.proofs.Walks.{met_by}
 use Rattle.meetings.proofs.meet.meet.Goals as goal
 

@@ -1,12 +1,10 @@
 -- `note_addressed` meets its contract. The invariant: the read units still ahead make of the row now what all of them make of it at the start.
 -- Assumes nothing.
-use mathlib.Core.Path.{refl}
 use Prim.Native.Nat.{◌-◌}
-use native.Mathlib.Omega.{arith}
 use mathlib.Core.List.{List, map}
 use Prim.Native.Nat.{ℕ}
-use Rattle.meetings.specs.Meeting.{paired, addressed_noted}
-use Rattle.meetings.proofs.Walks.{Walking, walk_start, walk_on, walk_end, address_next}
+use Rattle.meetings.specs.Meeting.{paired}
+use Rattle.meetings.proofs.Walks.{Walking}
 use Rattle.meetings.proofs.meet.note_addressed.Given as goal
 
 abbrev pub invariant-loop-v : goal.invariant-loop-v

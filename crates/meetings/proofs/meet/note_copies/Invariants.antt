@@ -1,14 +1,11 @@
 -- `note_copies` meets its contract. The invariant: the written units still ahead make of the pairs now what all of them make of those at the start.
 -- Assumes nothing.
-use mathlib.Core.Path.{refl}
 use Prim.Native.Nat.{◌-◌}
-use native.Mathlib.Omega.{arith}
 use mathlib.Core.List.{List}
 use Prim.Native.Nat.{ℕ}
-use Rattle.units.specs.Sets.{each}
 use Rattle.meetings.specs.Members.{members}
-use Rattle.meetings.specs.Meeting.{storages_at, paired, copy_pairs, copies_noted}
-use Rattle.meetings.proofs.Walks.{Walking, walk_start, walk_on, walk_end, copy_next}
+use Rattle.meetings.specs.Meeting.{storages_at, paired, copy_pairs}
+use Rattle.meetings.proofs.Walks.{Walking}
 use Rattle.meetings.proofs.meet.note_copies.Given as goal
 
 abbrev pub invariant-loop-w : goal.invariant-loop-w

@@ -1,12 +1,10 @@
 -- `note_copies_to` meets its contract. The invariant: the read units still ahead make of the pairs now what all of them make of those at the start.
 -- Assumes nothing.
-use mathlib.Core.Path.{refl}
 use Prim.Native.Nat.{◌-◌}
-use native.Mathlib.Omega.{arith}
 use mathlib.Core.List.{List}
 use Prim.Native.Nat.{ℕ}
 use Rattle.meetings.specs.Meeting.{paired, pairs_to}
-use Rattle.meetings.proofs.Walks.{Walking, walk_start, walk_on, walk_end, pair_next}
+use Rattle.meetings.proofs.Walks.{Walking}
 use Rattle.meetings.proofs.meet.note_copies_to.Given as goal
 
 abbrev pub invariant-loop-v : goal.invariant-loop-v

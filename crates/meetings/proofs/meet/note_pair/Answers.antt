@@ -1,6 +1,5 @@
 -- `note_pair` meets its contract: the test says which id is the smaller and which the greater.
 -- Assumes nothing.
-use borrow.Author.Rules.{rules}
 use Rattle.meetings.proofs.Walks.{note_first, note_second}
 use Rattle.meetings.proofs.meet.note_pair.Goals as goal
 

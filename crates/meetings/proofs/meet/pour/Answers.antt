@@ -1,10 +1,9 @@
 -- `pour` meets its contract. The invariant: the written units still ahead make of the buffer now what all of them make of it at the start.
 -- Assumes nothing.
 use mathlib.Core.Path.{refl}
-use Prim.Native.Nat.{◌-◌}
 use native.Mathlib.Omega.{arith}
 use Rattle.meetings.specs.Meeting.{poured}
-use Rattle.meetings.proofs.Walks.{Walking, walk_start, walk_on, walk_end, pour_next}
+use Rattle.meetings.proofs.Walks.{walk_start, walk_on, walk_end, pour_next}
 use Rattle.meetings.proofs.meet.pour.Goals as goal
 
 pub loop-w-init : goal.loop-w-init

@@ -1,10 +1,9 @@
 -- `spare` meets its contract. The invariant: the read units still ahead make of the row now what all of them make of it at the start.
 -- Assumes nothing.
 use mathlib.Core.Path.{refl}
-use Prim.Native.Nat.{◌-◌}
 use native.Mathlib.Omega.{arith}
 use Rattle.meetings.specs.Meeting.{less_rows}
-use Rattle.meetings.proofs.Walks.{Walking, walk_start, walk_on, walk_end, less_next}
+use Rattle.meetings.proofs.Walks.{walk_start, walk_on, walk_end, less_next}
 use Rattle.meetings.proofs.meet.spare.Goals as goal
 
 pub loop-v-init : goal.loop-v-init

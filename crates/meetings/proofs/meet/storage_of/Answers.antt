@@ -2,7 +2,6 @@
 -- Assumes nothing.
 use mathlib.Core.Path.{refl}
 use native.Mathlib.Omega.{arith}
-use borrow.Author.Rules.{rules}
 use Rattle.units.specs.Uses.{storage_of}
 use Rattle.meetings.proofs.meet.storage_of.Goals as goal
 

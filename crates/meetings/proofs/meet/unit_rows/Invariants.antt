@@ -1,8 +1,6 @@
 -- `unit_rows` meets its contract. The invariant: the units still to come make of the rows now what all of them make of the rows at the start.
 -- Assumes nothing.
-use Prim.Native.Nat.{◌-◌}
-use native.Mathlib.Omega.{arith}
-use Rattle.meetings.proofs.Walks.{Entering, enter_start, enter_on, enter_end}
+use Rattle.meetings.proofs.Walks.{Entering}
 use Rattle.meetings.proofs.meet.unit_rows.Given as goal
 
 abbrev pub invariant-loop-n : goal.invariant-loop-n

@@ -1,7 +1,6 @@
 -- `want` meets its contract: the row is the live row, and then its union with the row of what is read.
 -- Assumes nothing.
 use native.Mathlib.Omega.{arith}
-use borrow.Author.Rules.{rules}
 use Rattle.meetings.proofs.Walks.{want_row}
 use Rattle.meetings.proofs.meet.want.Goals as goal
 

@@ -1,6 +1,5 @@
 -- `want_of` meets its contract: the flag says whether the source is spared.
 -- Assumes nothing.
-use borrow.Author.Rules.{rules}
 use Rattle.meetings.proofs.Walks.{want_copy, want_plain}
 use Rattle.meetings.proofs.meet.want_of.Goals as goal
 

@@ -1,7 +1,6 @@
 -- `next_member` meets its contract. What is left of the word of `from`, shifted down, has the number as its lowest bit; where it is 0, the number stands in
 -- the first later word that is not 0; and where there is none, the row is passed. Assumes nothing.
 use native.Mathlib.Omega.{arith}
-use borrow.Author.Rules.{rules}
 use Rattle.meetings.proofs.Firsts.{first_past, first_here, first_none, first_later}
 use Rattle.meetings.proofs.members.next_member.Goals as goal
 

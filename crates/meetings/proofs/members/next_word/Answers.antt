@@ -1,9 +1,6 @@
 -- `next_word` meets its contract. The invariant: every word passed is 0, so the first that is not stops the walk.
 -- Assumes nothing.
-use mathlib.Core.Path.{◌≡◌}
-use Prim.Native.Nat.{ℕ, ◌-◌, ◌≤◌, ◌<◌}
 use native.Mathlib.Omega.{arith}
-use lib.ListN.{length, get_or}
 use Rattle.meetings.proofs.Firsts.{none_more}
 use Rattle.meetings.proofs.members.next_word.Goals as goal
 

@@ -2,9 +2,7 @@
 -- Assumes nothing.
 use mathlib.Core.Path.{◌≡◌}
 use Prim.Native.Nat.{ℕ, ◌-◌, ◌≤◌, ◌<◌}
-use native.Mathlib.Omega.{arith}
 use lib.ListN.{length, get_or}
-use Rattle.meetings.proofs.Firsts.{none_more}
 use Rattle.meetings.proofs.members.next_word.Given as goal
 
 abbrev pub invariant-loop-at : goal.invariant-loop-at
