@@ -21,7 +21,7 @@ use Rattle.slots.specs.declared.Page.{Page}
 use Rattle.slots.specs.Slots.{no_slot, no_page, slots_in, first_of}
 use Rattle.slots.specs.contracts.Page as P
 use Rattle.slots.proofs.Page.TheLaws as P'
-use Rattle.slots.proofs.Laws.{inside_same, mapped_length, Passes, NoneBelow, first_within, first_found, first_missed, first_is, first_none}
+use Rattle.slots.proofs.Laws.{inside_same, Passes, NoneBelow, first_within, first_found, first_missed, first_is, first_none}
 
 -- Every page has 16 slots.
 abbrev pub Full : List Page → Type 0
@@ -34,7 +34,7 @@ full_array n ps vs is = go ps is.0 is.1.1
     go : (qs : List Page) (us : List Val) → shadow (each Page (P.the_row).own_val qs us) → Full qs
     go [] us h = tt
     go (p ∷ qs) [] h = absurd h
-    go (p ∷ qs) (u ∷ us) h = (mapped_length _ _ p.slots 16 (LL.owed P.the_type P'.the_laws p (u ∷ []) h.0).0.1.0.1, go qs us h.1)
+    go (p ∷ qs) (u ∷ us) h = ((LL.owed P.the_type P'.the_laws p (u ∷ []) h.0).0.1.0.1, go qs us h.1)
 
 -- So is an array in which no slot is.
 pub full_none : (n : ℕ) → Full (replicate n no_page)
