@@ -5,7 +5,7 @@ use mathlib.Core.Logic.{◌⊎◌, inl, inr}
 use mathlib.Core.Bool.{Bool, true, false, not}
 use mathlib.Core.List.{List}
 use Prim.Native.Nat.{ℕ, ◌≤◌, ◌<◌}
-use native.Mathlib.Omega.{arith}
+use native.Mathlib.Omega.{arith, P}
 use lib.Dec.{T, eqb, ltb}
 use lib.ListN.{length, get_or}
 use borrow.Author.Tests.{le-ltb}
@@ -83,6 +83,7 @@ module _ (g : Given) (s : Storage) (m : Maps) where
     where
       go : (y : Bool) → T y → T (pick y ((eqb c 4 or (eqb c 6 or eqb c 7)) or (eqb s.kind a_carry and eqb c 2)) ((eqb c 3 or eqb c 5) or (eqb c 10 or eqb c 11)))
       go true y = t
+      go false y = elim y [ ]
 
   form_bytes : (c : ℕ) → T (not (is_bit s.kind)) → T ((eqb c 3 or eqb c 5) or (eqb c 10 or eqb c 11)) → T (right_form s.kind c)
   unfolding right_form pick
@@ -90,6 +91,7 @@ module _ (g : Given) (s : Storage) (m : Maps) where
     where
       go : (y : Bool) → T (not y) → T (pick y ((eqb c 4 or (eqb c 6 or eqb c 7)) or (eqb s.kind a_carry and eqb c 2)) ((eqb c 3 or eqb c 5) or (eqb c 10 or eqb c 11)))
       go false y = t
+      go true y = elim y [ ]
 
   -- What is found in the work map is named by the first of shadow and work that is allowed.
   named : (P : Placement → Type 0) (p q : Placement) → T (allows s shadow or allows s work) → (T (allows s shadow) → P p) → (T (allows s work) → P q) → P (pick (allows s shadow) p q)

@@ -31,6 +31,8 @@ held m sp i k = bit (get_or (map_of sp m) i 0) k
 same_eq : (q sp : Space) → T (same q sp) → q ≡ sp
 same_eq App App t = refl
 same_eq Work Work t = refl
+same_eq App Work t = elim t [ ]
+same_eq Work App t = elim t [ ]
 
 map_same : (sp : Space) (x : List ℕ) (m : Maps) → map_of sp (put_map sp x m) ≡ x
 map_same App x m = refl

@@ -17,14 +17,17 @@ use Rattle.places.specs.Legal.{Pairs}
 pub and_l : (a b : Bool) → T (a and b) → T a
 unfolding pick
 and_l true b t = tt
+and_l false b t = elim t [ ]
 
 pub and_r : (a b : Bool) → T (a and b) → T b
 unfolding pick
 and_r true b t = t
+and_r false b t = elim t [ ]
 
 pub and_in : (a b : Bool) → T a → T b → T (a and b)
 unfolding pick
 and_in true b p q = q
+and_in false b p q = elim p [ ]
 
 pub or_cases : (a b : Bool) → T (a or b) → T a ⊎ T b
 unfolding pick
@@ -34,6 +37,7 @@ or_cases false b t = inr t
 pub or_l : (a b : Bool) → T a → T (a or b)
 unfolding pick
 or_l true b t = tt
+or_l false b t = elim t [ ]
 
 pub or_r : (a b : Bool) → T b → T (a or b)
 unfolding pick
@@ -50,6 +54,7 @@ module _ {A : Type 0} (p : A → Bool) where
       go : T (p x) ⊎ T (any p xs) → (T (any p xs) → T (any p (xs ++ ys))) → T (p x or any p (xs ++ ys))
       go (inl h) ih = or_l (p x) (any p (xs ++ ys)) h
       go (inr h) ih = or_r (p x) (any p (xs ++ ys)) (ih h)
+  any_left [] ys t = elim t [ ]
 
   pub any_last : (xs : List A) (y : A) → T (p y) → T (any p (xs ++ (y ∷ [])))
   unfolding any
@@ -64,6 +69,7 @@ any_none p (x ∷ xs) v t h q = go (or_cases (eqb v x) (any (eqb v) xs) t) (any_
     go : T (eqb v x) ⊎ T (any (eqb v) xs) → (T (any (eqb v) xs) → (T (any p xs) → ⊥) → T (p v) → ⊥) → ⊥
     go (inl e) ih = h (or_l (p x) (any p xs) (subst (λ (n : ℕ). T (p n)) (eqb→eq v x e) q))
     go (inr m) ih = ih m (λ r. h (or_r (p x) (any p xs) r)) q
+any_none p [] v t h q = elim t [ ]
 
 -- ---- Each of a list, and each two
 

@@ -15,19 +15,8 @@ use Rattle.places.specs.declared.choose.Chosen.TheVariants.{Spot, Refused}
 use Rattle.places.specs.Memory.{Maps, clear_room}
 use Rattle.places.specs.Place.{choose_fixed}
 use borrow.Author.Rules.{rules}
-use Rattle.places.proofs.choose.choose_fixed.Statement.{statement}
-use Rattle.places.proofs.choose.choose_fixed.Tie as tie
+use Rattle.places.proofs.choose.choose_fixed.Goals as goal
 
-code-of-requires : tie.Need-code-of-requires
-code-of-requires c κs = search rules
-
-kind-matches-requires : tie.Need-kind-matches-requires
-kind-matches-requires c κs = search rules
-
-cast-t8 : tie.Need-overflow-cast-t8
-cast-t8 c = search rules
-
--- The code in hand is the placement's, so its test is the definition's.
 module _ (s : Storage) (p : Placement) (m : Maps) (code : ℕ) (k : Bool) (e : code ≡ code_of p) (h : k ≡ kind_matches s.kind s.len code) where
   matched : kind_matches s.kind s.len (code_of p) ≡ k
   matched = sym (h ∙ ap (kind_matches s.kind s.len) e)
@@ -44,34 +33,20 @@ module _ (s : Storage) (p : Placement) (m : Maps) (code : ℕ) (k : Bool) (e : c
   unfolding choose_fixed
   when-shut f t a b = sym (pick_yes _ _ _ (matched ∙ f) ∙ pick_no _ _ _ (sym a ∙ b))
 
-returns : tie.Need-returns
-returns c = when-bad _ _ _ _ _ c.before.before.before.code_of_lem.ensures c.before.before.kind_matches.ensures (not-true _ c.before.if1.true)
+pub overflow_cast-result : goal.overflow_cast-result
+overflow_cast-result c = search rules
 
-is-open-requires : tie.Need-is-open-requires
-is-open-requires c κs = search rules
+-- The code in hand is the placement's, so its test is the definition's.
 
-returns-2 : tie.Need-returns-2
-returns-2 c =
-    when-open _ _ _ _ _ c.before.before.before.before.code_of_lem.ensures c.before.before.before.kind_matches.ensures (not-false _ c.before.before.if1.false)
-    _ c.before.is_open.ensures c.if2.true
+pub returns-then-not-kind_matches : goal.returns-then-not-kind_matches
+returns-then-not-kind_matches c = when-bad _ _ _ _ _ c.code_of.ensures c.kind_matches.ensures (c.if-not-kind_matches.true)
 
-cast-t11 : tie.Need-overflow-cast-t11
-cast-t11 c = search rules
+pub returns-then-is_open : goal.returns-then-is_open
+returns-then-is_open c =
+    when-open _ _ _ _ _ c.code_of.ensures c.kind_matches.ensures (c.if-not-kind_matches.false)
+    _ c.is_open.ensures c.if-is_open.true
 
-returns-3 : tie.Need-returns-3
-returns-3 c =
-    when-shut _ _ _ _ _ c.before.before.before.before.before.code_of_lem.ensures c.before.before.before.before.kind_matches.ensures (not-false _ c.before.before.before.if1.false)
-    _ c.before.before.is_open.ensures c.before.if2.false
-
-pub choose-fixed-spec : {M : Type 1} → statement M
-choose-fixed-spec =
-    tie.close
-    (tie.spec
-    code-of-requires
-    kind-matches-requires
-    cast-t8
-    returns
-    is-open-requires
-    returns-2
-    cast-t11
-    returns-3)
+pub returns : goal.returns
+returns c =
+    when-shut _ _ _ _ _ c.code_of.ensures c.kind_matches.ensures (c.if-not-kind_matches.false)
+    _ c.is_open.ensures c.if-is_open.false
