@@ -90,6 +90,7 @@ slot_for_lem g s ts = go (tries s) refl (first_slot (fits_copied g s) ts) (first
 
 is_free_lem : (x : Fixed) → T (is_free x) → x ≡ fixed.Free
 is_free_lem fixed.Free t = refl
+is_free_lem (fixed.At _) t = elim t [ ]
 
 not_eq : (i j : ℕ) → T (not (eqb i j)) → ¬ (i ≡ j)
 not_eq i j t e = T_not (eqb i j) t (T_yes (eq-eqb i j e))

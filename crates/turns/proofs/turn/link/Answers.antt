@@ -1,0 +1,9 @@
+-- `link` meets its contract. The two stores are those of the contract, and a store leaves the length as it is.
+-- Assumes nothing.
+use native.Mathlib.Omega.{arith}
+use lib.ListN.{length-set}
+use borrow.Author.Rules.{rules}
+use Rattle.turns.proofs.turn.link.Goals as goal
+
+pub bounds-kin-b-2 : goal.bounds-kin-b-2
+bounds-kin-b-2 c = simp length-set (omega arith)
