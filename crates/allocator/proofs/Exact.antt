@@ -108,6 +108,7 @@ covered_held m (y ∷ ys) c sp i k t = go (or_cases (within (room_of y) sp i k) 
     go : T (within (room_of y) sp i k) ⊎ T (touched ys sp i k) → (T (touched ys sp i k) → T (held m sp i k)) → T (held m sp i k)
     go (inl u) ih = c.0 sp i k u
     go (inr u) ih = ih u
+covered_held m [] c sp i k t = elim t [ ]
 
 -- The other way round: what is low or touched is held.
 pub taken_held : (g : Given) (a f w : ℕ) (x : State) → Keeps g a f w x → (sp : Space) (i k : ℕ) → k < 8 → Taken f x.placed sp i k → T (held x.maps sp i k)

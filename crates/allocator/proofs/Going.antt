@@ -209,6 +209,7 @@ module _ {file graph copies app₀ wrk₀ app wrk : List ℕ} {list : List Page}
               → (y : State) × (u ≡ done y) × Held y app' wrk' (slots_in list') n' ids' kin' numbers' out' (i + 1)
           go Placed k e = e
           go (Opened p) k e = e
+          go (Refused _) k e = elim k [ ]
 
       -- What was taken still is.
       still_solid : (list' : List Page) (n' : ℕ) → Follows list n z v list' n' → (up : Floor) → Solid up app wrk → Solid up app' wrk'
