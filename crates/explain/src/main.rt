@@ -2,12 +2,13 @@
 // the analysis says of it.
 #![tactic(auto)]
 
-use libc::STDIN_FILENO;
+use input::read_full;
+use std::io;
 
 // A file has at most 16,384 bytes. One byte more is read, so that a longer input is seen to be too
 // long and is refused, not cut.
-fn main() {
+fn main(rt: HostRuntime) -> io::Result<()> {
     let mut file = [0u8; 16385];
-    let length = io::read_full(STDIN_FILENO, &mut file);
-    report::report(&file[..length]);
+    let length = read_full(&mut rt.stdin(), &mut file)?;
+    report::report(&mut rt.stdout(), &file[..length])
 }

@@ -2,11 +2,12 @@
 // storages lies, or the one line of a refusal.
 #![tactic(auto)]
 
-use libc::STDIN_FILENO;
+use input::read_full;
+use std::io;
 
 // One byte more is read than a file may have, so that a longer input is refused and not cut.
-fn main() {
+fn main(rt: HostRuntime) -> io::Result<()> {
     let mut file = [0u8; 16385];
-    let length = io::read_full(STDIN_FILENO, &mut file);
-    report::place(&file[..length]);
+    let length = read_full(&mut rt.stdin(), &mut file)?;
+    report::place(&mut rt.stdout(), &file[..length])
 }

@@ -3,32 +3,37 @@
 #![tactic(auto)]
 
 use fields::bytes::u16_at;
-use libc::STDIN_FILENO;
+use input::read_full;
+use std::io::{Read, Result, Write};
 
-// A proved loop has to end, and nothing says that the input does. So the loop counts its turns down,
-// from a number that no run uses up.
-fn main() {
-    let mut turns = u64::MAX;
-    while turns > 0 && replay_next() {
-        turns -= 1;
+// A proved loop has to end, and nothing says that the input does. So the loop counts its turns,
+// to a number that no run uses up.
+fn main(rt: HostRuntime) -> Result<()> {
+    let mut from = rt.stdin();
+    let mut out = rt.stdout();
+    for _ in 0..u64::MAX {
+        if !replay_next(&mut from, &mut out)? {
+            break;
+        }
     }
+    Ok(())
 }
 
 // Prints the report of the next file, and answers whether there was one.
-fn replay_next() -> bool {
+fn replay_next<R: Read, W: Write>(from: &mut R, out: &mut W) -> Result<bool> {
     let mut head = [0u8; 2];
-    let got = io::read_full(STDIN_FILENO, &mut head);
+    let got = read_full(from, &mut head)?;
     if got < 2 {
-        return false;
+        return Ok(false);
     }
     let length = u16_at(&head, 0) as usize;
-    let mut file = io::large_buffer();
-    replay_file(&mut file[..length]);
-    true
+    let mut file = [0u8; 65536];
+    replay_file(from, out, &mut file[..length])?;
+    Ok(true)
 }
 
 // Reads the bytes of one file, as many as `file` has room for, and prints their report.
-fn replay_file(file: &mut [u8]) {
-    let got = io::read_full(STDIN_FILENO, file);
-    report::report(&file[..got]);
+fn replay_file<R: Read, W: Write>(from: &mut R, out: &mut W, file: &mut [u8]) -> Result<()> {
+    let got = read_full(from, file)?;
+    report::report(out, &file[..got])
 }

@@ -1,4 +1,4 @@
-// The report: what the analysis and the placer say of one program file, as lines of text on standard output.
+// The report: what the analysis and the placer say of one program file, as lines of text for a writer.
 // Knows the answers of `records`, `units`, `liveness`, `graph` and `allocator`, and the text of `lines`;
 // gives `report`, which writes them all, and `place`, which writes the placing alone.
 #![tactic(auto)]
@@ -10,7 +10,8 @@ mod placing;
 mod steps;
 mod storages;
 
-ghost use Rattle.std.specs.Prelude.{◌≡◌, ◌≤◌, take};
+ghost use Rattle.std.specs.Prelude.{◌≡◌, ◌≤◌, OnOk, take};
+ghost use Rattle.std.specs.Io.KnownBytes.{Appends};
 ghost use Rattle.report.specs.Printed.{printed};
 
 use functions::put_functions;
@@ -19,30 +20,35 @@ use lines::placing::Setting;
 use page::{room, write_out};
 use placing::put_placing;
 use records::Checked;
+use std::io::{Result, Write};
 use storages::put_graph;
 
 // Writes the whole text of a file. It can be longer than the page, which is then written in pieces.
-pub fn report(file: &[u8]) {
+pub fn report<W: Write>(out: &mut W, file: &[u8]) -> Result<()> {
     let mut units = [0u32; 512];
     let checked = records::check(file, &mut units);
-    let mut page = io::large_buffer();
+    let mut page = [0u8; 65536];
     let end = put_answer(&mut page, &units, checked);
-    write_with_analysis(&mut page, end, file, &mut units, checked);
+    write_with_analysis(out, &mut page, end, file, &mut units, checked)
 }
 
-// Writes the placing of a file alone, or the one line of its refusal.
-pub fn place(file: &[u8]) {
-    let mut page = io::large_buffer();
-    write_placing(&mut page, file);
+// Writes the placing of a file alone, or the one line of its refusal. So what the program `place`
+// prints is fixed by the contract of `place` of `allocator`.
+pub fn place<W: Write>(out: &mut W, file: &[u8]) -> Result<()>
+    ensures { OnOk result (Appends (W.contents out.old) (W.contents out.new) (printed file.now)) }
+{
+    let mut page = [0u8; 65536];
+    write_placing(out, &mut page, file)
 }
 
-fn write_placing(page: &mut [u8; 65536], file: &[u8]) {
+fn write_placing<W: Write>(out: &mut W, page: &mut [u8; 65536], file: &[u8]) -> Result<()>
+    ensures { OnOk result (Appends (W.contents out.old) (W.contents out.new) (printed file.now)) }
+{
     let end = put_placed(page, file);
-    write_out(page, end);
+    write_out(out, page, end)
 }
 
-// Puts the text of a file's placing from the start of the page, and answers where it ends. So what the
-// program `place` prints is fixed by the contract of `place` of `allocator`.
+// Puts the text of a file's placing from the start of the page, and answers where it ends.
 fn put_placed(page: &mut [u8; 65536], file: &[u8]) -> usize
     ensures ends { result ≤ 65536 }
     ensures text { take result page.new ≡ printed file.now }
@@ -53,23 +59,24 @@ fn put_placed(page: &mut [u8; 65536], file: &[u8]) -> usize
 
 // Behind the answer of `check`, which ends at `at`, an accepted file has the lines of its functions,
 // of its graph and of its placing, and a refused one has nothing.
-fn write_with_analysis(
+fn write_with_analysis<W: Write>(
+    out: &mut W,
     page: &mut [u8; 65536],
     at: usize,
     file: &[u8],
     units: &mut [u32; 512],
     checked: Checked,
-)
+) -> Result<()>
     requires { at ≤ 65536 }
 {
     match checked {
         Checked::Units(_) => {
-            let functions = put_functions(page, at, file, units);
-            let graph = put_graph(page, functions, file, units);
-            let start = room(page, graph, 24000);
+            let functions = put_functions(out, page, at, file, units)?;
+            let graph = put_graph(out, page, functions, file, units)?;
+            let start = room(out, page, graph, 24000)?;
             let end = put_placing(page, start, file, units, Setting::InReport);
-            write_out(page, end);
+            write_out(out, page, end)
         }
-        Checked::Refused(_) => write_out(page, at),
+        Checked::Refused(_) => write_out(out, page, at),
     }
 }

@@ -1,74 +1,83 @@
 // The line of a step, which is an instruction or a terminator: what it reads and writes, in units and
 // in storages, and whether it has an effect that can be observed.
-ghost use Rattle.std.specs.Prelude.{◌≤◌};
+ghost use Rattle.std.specs.Prelude.{◌≤◌, IfOk};
 
 use crate::page::{put_named, put_set, put_word};
+use std::io::{Result, Write};
 use units::Effect;
 
-pub fn put_step(
+pub fn put_step<W: Write>(
+    out: &mut W,
     page: &mut [u8; 65536],
     at: usize,
     file: &[u8],
     place: usize,
     units: &mut [u32; 512],
-) -> usize
+) -> Result<usize>
     requires { at ≤ 65536 }
-    ensures { result ≤ 65536 }
+    ensures { IfOk result (λ r. r ≤ 65536) }
 {
-    let start = put_named(page, at, b"at ", place as u64);
-    let units_end = put_units_of(page, start, file, place, units);
-    let storages_end = put_storages_of(page, units_end, file, place, units);
+    let start = put_named(out, page, at, b"at ", place as u64)?;
+    let units_end = put_units_of(out, page, start, file, place, units)?;
+    let storages_end = put_storages_of(out, page, units_end, file, place, units)?;
     let effect = units::observable_effect(file, place, units);
-    put_effect(page, storages_end, effect)
+    put_effect(out, page, storages_end, effect)
 }
 
 // The units that a step reads, and those that it writes. Each has a row of its own, in which a
 // refusal would leave no unit.
-fn put_units_of(
+fn put_units_of<W: Write>(
+    out: &mut W,
     page: &mut [u8; 65536],
     at: usize,
     file: &[u8],
     place: usize,
     units: &mut [u32; 512],
-) -> usize
+) -> Result<usize>
     requires { at ≤ 65536 }
-    ensures { result ≤ 65536 }
+    ensures { IfOk result (λ r. r ≤ 65536) }
 {
     let mut reads = [0u64; 8];
     units::unit_reads(file, place, units, &mut reads);
     let mut writes = [0u64; 8];
     units::unit_writes(file, place, units, &mut writes);
-    let end = put_set(page, at, b" reads", &reads, 0, 8);
-    put_set(page, end, b" writes", &writes, 0, 8)
+    let end = put_set(out, page, at, b" reads", &reads, 0, 8)?;
+    put_set(out, page, end, b" writes", &writes, 0, 8)
 }
 
 // The same for storages.
-fn put_storages_of(
+fn put_storages_of<W: Write>(
+    out: &mut W,
     page: &mut [u8; 65536],
     at: usize,
     file: &[u8],
     place: usize,
     units: &mut [u32; 512],
-) -> usize
+) -> Result<usize>
     requires { at ≤ 65536 }
-    ensures { result ≤ 65536 }
+    ensures { IfOk result (λ r. r ≤ 65536) }
 {
     let mut reads = [0u64; 4];
     units::storage_reads(file, place, units, &mut reads);
     let mut writes = [0u64; 4];
     units::storage_writes(file, place, units, &mut writes);
-    let end = put_set(page, at, b" storages-read", &reads, 0, 4);
-    put_set(page, end, b" storages-written", &writes, 0, 4)
+    let end = put_set(out, page, at, b" storages-read", &reads, 0, 4)?;
+    put_set(out, page, end, b" storages-written", &writes, 0, 4)
 }
 
 // The effect ends the line. A step of an accepted file is never refused.
-fn put_effect(page: &mut [u8; 65536], at: usize, effect: Effect) -> usize
+fn put_effect<W: Write>(
+    out: &mut W,
+    page: &mut [u8; 65536],
+    at: usize,
+    effect: Effect,
+) -> Result<usize>
     requires { at ≤ 65536 }
-    ensures { result ≤ 65536 }
+    ensures { IfOk result (λ r. r ≤ 65536) }
 {
     match effect {
-        Effect::Yes => put_word(page, at, b" effect yes\n"),
-        Effect::No => put_word(page, at, b" effect no\n"),
-        Effect::Refused(_) => put_word(page, at, b" effect no\n"),
+        Effect::Yes => put_word(out, page, at, b" effect yes\n"),
+        Effect::No => put_word(out, page, at, b" effect no\n"),
+        Effect::Refused(_) => put_word(out, page, at, b" effect no\n"),
     }
 }
