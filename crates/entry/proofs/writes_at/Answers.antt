@@ -1,0 +1,8 @@
+-- The query answers with its one outcome, and the number says whether the row was filled.
+-- So the number and both buffers are that outcome's.
+use Rattle.entry.proofs.Laws.{fills}
+use borrow.Author.Rules.{rules}
+use Rattle.entry.proofs.writes_at.Goals as goal
+
+pub returns : goal.returns
+returns c = fills _ _ _ _ _ _ _ _ _ _ c.unit_writes.ensures c.filled.ensures
