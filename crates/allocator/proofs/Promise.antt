@@ -13,7 +13,6 @@ use Rattle.fields.specs.Record as R
 use Rattle.records.specs.Check.{units, check}
 use Rattle.records.specs.Program.{Program, program}
 use Rattle.records.proofs.Accepted.{accepted}
-use Rattle.storages.specs.declared.Storage.{Storage}
 use Rattle.storages.specs.declared.Space.{Space}
 use Rattle.storages.specs.declared.Space.TheVariants.{App}
 use Rattle.storages.specs.Storage.{stored}

@@ -5,7 +5,6 @@ use Prim.Native.Nat.{ℕ}
 use mathlib.Core.List.{List}
 use Rattle.records.specs.Outcome.{Outcome, Checks}
 use Rattle.records.specs.declared.Checked.{Checked}
-use Rattle.records.specs.declared.Checked.TheVariants.{Refused}
 use Rattle.records.specs.declared.Refusal.{Refusal}
 use Rattle.units.specs.Ask.{Query, Asked, Asks, Told, Tells}
 use Rattle.units.specs.declared.Answered.{Answered}

@@ -1,7 +1,7 @@
 -- The first i bytes are copied and all else is as it was, so in the end the buffer is the other.
 -- Assumes nothing.
 use mathlib.Core.Path.{◌≡◌, refl, sym, ◌∙◌, subst}
-use Prim.Native.Nat.{◌+◌, ◌-◌, ◌≤◌}
+use Prim.Native.Nat.{◌+◌}
 use native.Mathlib.Omega.{arith}
 use lib.ListN.{length, get_or, set}
 use Rattle.rows.proofs.Rows.{put_whole}

@@ -1,11 +1,8 @@
 -- The first i bytes are copied and all else is as it was, so in the end the buffer is the other.
 -- Assumes nothing.
-use mathlib.Core.Path.{◌≡◌, refl, sym, ◌∙◌, subst}
-use Prim.Native.Nat.{◌+◌, ◌-◌, ◌≤◌}
-use native.Mathlib.Omega.{arith}
-use lib.ListN.{length, get_or, set}
-use Rattle.rows.proofs.Rows.{put_whole}
-use Rattle.rows.proofs.Fill.{Filled, filled_none, filled_more, filled_all}
+use Prim.Native.Nat.{◌-◌, ◌≤◌}
+use lib.ListN.{length}
+use Rattle.rows.proofs.Fill.{Filled}
 use Rattle.allocator.proofs.copy_bytes.Given as goal
 
 abbrev pub invariant-loop-i : goal.invariant-loop-i

@@ -2,7 +2,6 @@
 -- Assumes nothing.
 use mathlib.Core.Path.{sym}
 use Rattle.allocator.proofs.Answering.{analysed_header, analysed_numbers, analysed_fit, laid_none, emptied, cleared_row, placed_done, placed_refused}
-use borrow.Author.Rules.{rules}
 use Rattle.allocator.proofs.place_on.Goals as goal
 
 pub allocate-requires : goal.allocate-requires

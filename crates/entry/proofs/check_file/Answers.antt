@@ -2,7 +2,6 @@
 -- Its two ways of answering are one law.
 use mathlib.Core.Path.{refl}
 use Rattle.entry.proofs.Laws.{answers}
-use borrow.Author.Rules.{rules}
 use Rattle.entry.proofs.check_file.Goals as goal
 
 pub returns-in-Units : goal.returns-in-Units

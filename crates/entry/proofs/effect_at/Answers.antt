@@ -2,7 +2,6 @@
 -- Its three ways of answering are one law.
 use mathlib.Core.Path.{refl}
 use Rattle.entry.proofs.Laws.{says}
-use borrow.Author.Rules.{rules}
 use Rattle.entry.proofs.effect_at.Goals as goal
 
 pub returns-in-Yes : goal.returns-in-Yes

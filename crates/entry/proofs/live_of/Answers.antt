@@ -2,7 +2,6 @@
 -- Its two ways of answering are one law.
 use mathlib.Core.Path.{refl}
 use Rattle.entry.proofs.Laws.{settles}
-use borrow.Author.Rules.{rules}
 use Rattle.entry.proofs.live_of.Goals as goal
 
 pub returns-in-Passes : goal.returns-in-Passes

@@ -2,7 +2,6 @@
 -- Its two ways of answering are one law; each remainder keeps its part of the number below the next part.
 use mathlib.Core.Path.{refl}
 use Rattle.entry.proofs.Laws.{puts}
-use borrow.Author.Rules.{rules}
 use Rattle.entry.proofs.place_file.Goals as goal
 
 pub returns-in-Done : goal.returns-in-Done

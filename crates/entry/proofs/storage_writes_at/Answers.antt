@@ -1,7 +1,6 @@
 -- The query answers with its one outcome, and the number says whether the row was filled.
 -- So the number and both buffers are that outcome's.
 use Rattle.entry.proofs.Laws.{fills}
-use borrow.Author.Rules.{rules}
 use Rattle.entry.proofs.storage_writes_at.Goals as goal
 
 pub returns : goal.returns

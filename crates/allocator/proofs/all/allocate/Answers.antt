@@ -2,7 +2,6 @@
 -- Assumes nothing.
 use mathlib.Core.Path.{refl, sym, ◌∙◌}
 use native.Mathlib.Omega.{arith}
-use borrow.Author.Rules.{rules}
 use Rattle.allocator.proofs.Fitting.{header_low, first_low, work_low, work_long, app_room, app_long, starts}
 use Rattle.allocator.proofs.all.allocate.Goals as goal
 

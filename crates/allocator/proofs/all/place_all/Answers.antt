@@ -1,12 +1,11 @@
 -- `place_all` meets its contract. The invariant: the storages still ahead, placed from the state that the words stand for, come to what all of them come to
 -- from the start. Each turn takes one record; at the end none is ahead. Assumes nothing.
-use Prim.Native.Nat.{◌-◌, ◌<◌}
 use mathlib.Core.Path.{sym, ap, ◌∙◌}
 use native.Mathlib.Omega.{arith}
 use lib.ListN.{length}
 use borrow.Author.Rules.{rules}
 use Rattle.storages.proofs.Declared.{opened, opens_inside}
-use Rattle.allocator.proofs.Going.{Going, going_start, Follows, placed_follows, opened_follows, going_held, front_fits, front_few, going_refused, going_on, going_end, clear_long}
+use Rattle.allocator.proofs.Going.{going_start, Follows, placed_follows, opened_follows, going_held, front_fits, front_few, going_refused, going_on, going_end, clear_long}
 use Rattle.allocator.proofs.all.place_all.Goals as goal
 use Rattle.allocator.proofs.all.place_all.Goals.{in-Placed, in-Opened}
 

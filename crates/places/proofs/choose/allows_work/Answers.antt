@@ -2,7 +2,6 @@
 -- Where it is not, the answer for work decides.
 use mathlib.Core.Path.{sym, ◌∙◌}
 use Rattle.fields.specs.Pick.{pick_yes, pick_no}
-use borrow.Author.Rules.{rules}
 use Rattle.places.proofs.choose.allows_work.Goals as goal
 
 pub returns-then-allows_region : goal.returns-then-allows_region

@@ -6,7 +6,6 @@ use Rattle.storages.specs.declared.Placement.TheVariants.{ApplicationBit}
 use Rattle.maps.specs.declared.FoundBit.{FoundBit}
 use Rattle.maps.specs.Maps.{BitIn}
 use Rattle.places.specs.Place.{fitted, app_bit}
-use borrow.Author.Rules.{rules}
 use Rattle.places.proofs.choose.app_bit.Goals as goal
 
 pub narrow-o-requires : goal.narrow-o-requires

@@ -9,7 +9,6 @@ use Rattle.maps.specs.declared.Found.{Found}
 use Rattle.maps.specs.Maps.{FoundIn}
 use Rattle.places.specs.declared.choose.Chosen.TheVariants.{Spot}
 use Rattle.places.specs.Place.{app_bytes}
-use borrow.Author.Rules.{rules}
 use Rattle.places.proofs.choose.app_bytes.Goals as goal
 
 pub narrow-o-requires : goal.narrow-o-requires

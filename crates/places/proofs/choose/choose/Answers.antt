@@ -8,7 +8,6 @@ use Rattle.places.specs.declared.choose.Chosen.{Chosen}
 use Rattle.places.specs.Memory.{Maps}
 use Rattle.places.specs.Place.{Given, choose_free, choose_fixed, choose_by, choose}
 use Rattle.places.specs.Legal.{FixedSmall}
-use borrow.Author.Rules.{rules}
 use Rattle.places.proofs.choose.choose.Goals as goal
 
 module _ (g : Given) (s : Storage) (m : Maps) (r : Chosen) where

@@ -3,7 +3,6 @@
 use mathlib.Core.Path.{◌≡◌, sym, ap, ◌∙◌}
 use mathlib.Core.Bool.{Bool, true, false}
 use Prim.Native.Nat.{ℕ}
-use borrow.Author.Tests.{not-true, not-false}
 use Rattle.fields.specs.Pick.{pick_yes, pick_no, ◌and◌}
 use Rattle.records.specs.declared.Refusal.TheVariants.{BadFixed, Conflict}
 use Rattle.storages.specs.declared.Placement.{Placement}

@@ -3,7 +3,6 @@
 use mathlib.Core.Path.{sym, ◌∙◌}
 use Rattle.fields.specs.Pick.{pick_yes, pick_no}
 use Rattle.places.specs.Place.{choose_free}
-use borrow.Author.Rules.{rules}
 use Rattle.places.proofs.choose.choose_free.Goals as goal
 
 pub returns-then-sits_in_flag : goal.returns-then-sits_in_flag

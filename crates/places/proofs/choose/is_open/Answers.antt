@@ -4,7 +4,6 @@ use mathlib.Core.Path.{sym, ap, subst, ◌∙◌}
 use Rattle.fields.specs.Pick.{pick_yes, pick_no}
 use Rattle.places.specs.Memory.{clear_room}
 use Rattle.places.specs.Legal.{Small}
-use borrow.Author.Rules.{rules}
 use Rattle.places.proofs.choose.is_open.Goals as goal
 
 pub is_clear-requires : goal.is_clear-requires

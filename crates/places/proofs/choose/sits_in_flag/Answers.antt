@@ -3,7 +3,6 @@
 use mathlib.Core.Path.{sym, ◌∙◌}
 use borrow.Author.Tests.{eq-eqb, ne_eqb}
 use Rattle.fields.specs.Pick.{pick_yes, pick_no}
-use borrow.Author.Rules.{rules}
 use Rattle.places.proofs.choose.sits_in_flag.Goals as goal
 
 pub returns-then-s-ne3 : goal.returns-then-s-ne3

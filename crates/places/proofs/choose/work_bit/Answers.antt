@@ -5,7 +5,6 @@ use native.Mathlib.Omega.{arith}
 use Rattle.fields.specs.Pick.{pick_yes, pick_no}
 use Rattle.places.specs.Place.{name_bit, work_bit}
 use Rattle.places.proofs.Choosing.{bit_below}
-use borrow.Author.Rules.{rules}
 use Rattle.places.proofs.choose.work_bit.Goals as goal
 
 pub name_bit-requires : goal.name_bit-requires

@@ -5,7 +5,6 @@ use native.Mathlib.Omega.{arith}
 use Rattle.fields.specs.Pick.{pick_yes, pick_no}
 use Rattle.places.specs.Place.{name_bytes, work_bytes}
 use Rattle.places.proofs.Choosing.{found_below}
-use borrow.Author.Rules.{rules}
 use Rattle.places.proofs.choose.work_bytes.Goals as goal
 
 pub returns-then-allows_region : goal.returns-then-allows_region

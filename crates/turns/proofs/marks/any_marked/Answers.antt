@@ -1,6 +1,5 @@
 -- `any_marked` meets its contract: a word other than 0 tells the row from the empty one, and where three are 0 the last one tells.
 -- Assumes nothing.
-use borrow.Author.Rules.{rules}
 use Rattle.turns.proofs.Marking.{marked_at, marked_last}
 use Rattle.turns.proofs.marks.any_marked.Goals as goal
 

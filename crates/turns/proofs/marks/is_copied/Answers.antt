@@ -1,6 +1,5 @@
 -- `is_copied` meets its contract: the test says which id is the smaller and which the greater.
 -- Assumes nothing.
-use borrow.Author.Rules.{rules}
 use Rattle.turns.proofs.Marking.{copied_first, copied_second}
 use Rattle.turns.proofs.marks.is_copied.Goals as goal
 

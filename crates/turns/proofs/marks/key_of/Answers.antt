@@ -2,7 +2,6 @@
 -- Assumes nothing.
 use mathlib.Core.Path.{refl}
 use native.Mathlib.Omega.{arith}
-use borrow.Author.Rules.{rules}
 use Rattle.turns.specs.Held.{key_by}
 use Rattle.turns.proofs.marks.key_of.Goals as goal
 

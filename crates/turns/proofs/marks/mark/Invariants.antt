@@ -1,13 +1,9 @@
 -- `mark` meets its contract. The invariant: what the rows tell, together with the storages that the links still lead to, is what all come to; each link leads down.
 -- Assumes nothing.
-use mathlib.Core.Path.{refl, sym, ap, ◌∙◌}
 use mathlib.Core.List.{List}
-use Prim.Native.Nat.{ℕ, ◌+◌, ◌-◌}
-use native.Mathlib.Omega.{arith}
-use lib.ListN.{length}
-use lib.Seq.{get_or-drop}
+use Prim.Native.Nat.{ℕ}
 use Rattle.turns.specs.Held.{KinLinked}
-use Rattle.turns.proofs.Marking.{Left, mark_start, mark_next, mark_end, leads_down}
+use Rattle.turns.proofs.Marking.{Left}
 use Rattle.turns.proofs.marks.mark.Given as goal
 
 abbrev pub invariant-loop-next : goal.invariant-loop-next

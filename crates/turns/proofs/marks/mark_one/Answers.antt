@@ -2,13 +2,10 @@
 -- Assumes nothing.
 use mathlib.Core.Path.{◌≡◌, refl, sym, ◌∙◌}
 use mathlib.Core.Bool.{true}
-use Prim.Native.Nat.{◌*◌}
 use lib.Dec.{ltb}
-use borrow.Author.Rules.{rules}
 use borrow.Author.Tests.{lt-ltb, le-ltb}
-use Rattle.rows.specs.Row.{member_at, with_at}
-use Rattle.fields.specs.Pick.{pick, pick_yes, pick_no, ◌and◌}
-use Rattle.turns.proofs.Marking.{row_past, row_kept, row_changed, put_length}
+use Rattle.fields.specs.Pick.{pick_yes, pick_no}
+use Rattle.turns.proofs.Marking.{row_past, row_kept, row_changed}
 use Rattle.turns.proofs.marks.mark_one.Goals as goal
 use Rattle.turns.proofs.marks.mark_one.Goals.{then-has, else-has}
 

@@ -3,7 +3,6 @@
 use mathlib.Core.Path.{sym, ◌∙◌}
 use native.Mathlib.Omega.{arith}
 use borrow.Author.Rules.{rules}
-use borrow.Author.Tests.{not-true, not-false}
 use Rattle.turns.proofs.Seeking.{unmarked_none, seek_none, seek_closed, seek_copied, seek_fitting}
 use Rattle.turns.proofs.marks.slot_for.Goals as goal
 use Rattle.turns.proofs.marks.slot_for.Goals.{then-any_marked+else-first-n, else-any_marked}

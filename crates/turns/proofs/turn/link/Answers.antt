@@ -2,7 +2,6 @@
 -- Assumes nothing.
 use native.Mathlib.Omega.{arith}
 use lib.ListN.{length-set}
-use borrow.Author.Rules.{rules}
 use Rattle.turns.proofs.turn.link.Goals as goal
 
 pub bounds-kin-b-2 : goal.bounds-kin-b-2

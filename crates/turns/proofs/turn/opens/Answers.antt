@@ -1,7 +1,6 @@
 -- `opens` meets its contract: the test of the code is the test of the definition.
 -- Assumes nothing.
 use mathlib.Core.Path.{sym, ◌∙◌}
-use borrow.Author.Rules.{rules}
 use Rattle.fields.specs.Pick.{pick_yes, pick_no}
 use Rattle.turns.proofs.turn.opens.Goals as goal
 

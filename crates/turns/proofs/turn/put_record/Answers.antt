@@ -2,7 +2,6 @@
 -- Assumes nothing.
 use native.Mathlib.Omega.{arith}
 use lib.ListN.{length-set}
-use borrow.Author.Rules.{rules}
 use Rattle.turns.proofs.Noting.{record_put}
 use Rattle.turns.proofs.turn.put_record.Goals as goal
 

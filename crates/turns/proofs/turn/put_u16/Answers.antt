@@ -2,7 +2,6 @@
 -- Assumes nothing.
 use native.Mathlib.Omega.{arith}
 use lib.ListN.{length-set}
-use borrow.Author.Rules.{rules}
 use Rattle.turns.proofs.turn.put_u16.Goals as goal
 
 pub bounds-out-at-2 : goal.bounds-out-at-2

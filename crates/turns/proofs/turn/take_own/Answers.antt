@@ -5,7 +5,6 @@ use Rattle.places.specs.Legal.{Inside}
 use Rattle.places.specs.Place.{take_room}
 use Rattle.turns.proofs.Noting.{number_low, taken_turned}
 use Rattle.turns.proofs.Turning.{chosen_inside, chosen_is}
-use borrow.Author.Rules.{rules}
 use Rattle.turns.proofs.turn.take_own.Goals as goal
 
 pub take_room-requires : goal.take_room-requires
