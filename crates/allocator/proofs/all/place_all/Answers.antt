@@ -49,7 +49,6 @@ pub enum_known-p : goal.enum_known-p
 enum_known-p c = search rules
 
 -- Where a storage opens a slot there is room for one more.
-
 pub offset_bounds-list-k : goal.offset_bounds-list-k
 offset_bounds-list-k c =
     let f = c.args.file.now in

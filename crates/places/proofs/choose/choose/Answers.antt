@@ -25,7 +25,6 @@ choose_fixed-requires c =
     c.requires.3
 
 -- What the fixed place is known to be is what the definition goes by.
-
 pub returns-in-Free : goal.returns-in-Free
 returns-in-Free c g p q = when-free g _ _ _ c.in-Free.is (c.choose_free.ensures g p q)
 

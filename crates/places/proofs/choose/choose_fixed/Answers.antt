@@ -36,7 +36,6 @@ pub overflow_cast-result : goal.overflow_cast-result
 overflow_cast-result c = search rules
 
 -- The code in hand is the placement's, so its test is the definition's.
-
 pub returns-then-not-kind_matches : goal.returns-then-not-kind_matches
 returns-then-not-kind_matches c = when-bad _ _ _ _ _ c.code_of.ensures c.kind_matches.ensures (c.if-not-kind_matches.true)
 

@@ -33,7 +33,6 @@ pub fit-requires-else-allows_region : goal.fit-requires-else-allows_region
 fit-requires-else-allows_region c = search rules
 
 -- The narrowed numbers are the found ones, so the name is the one that the definition picks.
-
 pub returns-in-NoBit : goal.returns-in-NoBit
 returns-in-NoBit c = sym (ap (name_bit c.args.s) c.in-NoBit.is)
 

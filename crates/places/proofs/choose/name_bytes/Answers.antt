@@ -30,7 +30,6 @@ pub fit-requires-else-allows_region : goal.fit-requires-else-allows_region
 fit-requires-else-allows_region c = search rules
 
 -- The narrowed offset is the found one, so the name is the one that the definition picks.
-
 pub returns-in-Nothing : goal.returns-in-Nothing
 returns-in-Nothing c = sym (ap (name_bytes c.args.s) c.in-Nothing.is)
 

@@ -35,7 +35,6 @@ pub overflow_cast-count : goal.overflow_cast-count
 overflow_cast-count c = search rules
 
 -- A room whose space is known lies inside that space's map.
-
 pub take_bytes-requires : goal.take_bytes-requires
 take_bytes-requires c =
     bytes_inside _ _ _ _ App _ _ c.in-Bytes.is c.in-App.is
@@ -57,7 +56,6 @@ take_bit-requires-in-Work-space c =
     c.requires
 
 -- A room whose space is known is taken in that space's map; the other map stays.
-
 pub returns-in-Nowhere : goal.returns-in-Nowhere
 unfolding reserve
 returns-in-Nowhere c =
