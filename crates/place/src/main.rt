@@ -2,12 +2,23 @@
 // storages lies, or the one line of a refusal.
 #![tactic(auto)]
 
+ghost use Rattle.std.specs.Prelude.{OnOk, IfSome, take};
+ghost use Rattle.std.specs.Io.KnownBytes.{Appends};
+ghost use Rattle.report.specs.Printed.{printed};
+
 use input::read_full;
-use std::io;
+use std::io::{Read, Result, Write};
+
+fn main(rt: HostRuntime) -> Result<()> {
+    place_input(&mut rt.stdin(), &mut rt.stdout())
+}
 
 // One byte more is read than a file may have, so that a longer input is refused and not cut.
-fn main(rt: HostRuntime) -> io::Result<()> {
+fn place_input<R: Read, W: Write>(from: &mut R, out: &mut W) -> Result<()>
+    ensures { OnOk result (IfSome (R.remaining from.old)
+        (λ bytes. Appends (W.contents out.old) (W.contents out.new) (printed (take 16385 bytes)))) }
+{
     let mut file = [0u8; 16385];
-    let length = read_full(&mut rt.stdin(), &mut file)?;
-    report::place(&mut rt.stdout(), &file[..length])
+    let length = read_full(from, &mut file)?;
+    report::place(out, &file[..length])
 }
