@@ -2,7 +2,7 @@
 ghost use Rattle.std.specs.Prelude.{◌<◌, ◌≤◌, IfOk, length};
 
 use crate::page::{put_named, put_set, put_word};
-use crate::places::{count_blocks, id_at, next_place, number_at};
+use crate::record_places::{count_blocks, id_at, next_place, number_at};
 use crate::steps::put_step;
 use liveness::Lived;
 use std::io::{Result, Write};

@@ -5,10 +5,10 @@
 
 mod functions;
 mod page;
-mod places;
 mod placing;
+mod record_places;
 mod steps;
-mod storages;
+mod storage_lines;
 
 ghost use Rattle.std.specs.Prelude.{◌≡◌, ◌≤◌, OnOk, take};
 ghost use Rattle.std.specs.Io.KnownBytes.{Appends};
@@ -21,7 +21,7 @@ use page::{room, write_out};
 use placing::put_placing;
 use records::Checked;
 use std::io::{Result, Write};
-use storages::put_graph;
+use storage_lines::put_graph;
 
 // Writes the whole text of a file. It can be longer than the page, which is then written in pieces.
 pub fn report<W: Write>(out: &mut W, file: &[u8]) -> Result<()> {

@@ -2,7 +2,7 @@
 ghost use Rattle.std.specs.Prelude.{◌<◌, ◌≤◌, IfOk};
 
 use crate::page::{put_named, put_set, put_word};
-use crate::places::{id_at, next_place};
+use crate::record_places::{id_at, next_place};
 use graph::Graphed;
 use std::io::{Result, Write};
 
