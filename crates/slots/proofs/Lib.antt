@@ -1,3 +1,4 @@
 pub mod Laws
+mod Lent
 pub mod Marks
 pub mod Pages
