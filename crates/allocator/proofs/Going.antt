@@ -1,7 +1,7 @@
 -- The walk over the storage records of a file. The storages still ahead, placed from the state that the words stand for, come to what all of them come to from
 -- the start; a turn takes the record at the front, and at the end none is ahead.
 use mathlib.Core.Path.{◌≡◌, refl, sym, ap, ◌∙◌, subst}
-use mathlib.Core.Bool.{true, false}
+use mathlib.Core.Bool.{Bool, true, false}
 use mathlib.Core.List.{List, [], ◌∷◌, map}
 use Prim.Native.Nat.{ℕ, zero, suc, ◌+◌, ◌*◌, ◌/◌, ◌%◌, ◌≤◌, ◌<◌}
 use native.Mathlib.Omega.{arith}
@@ -18,7 +18,7 @@ use Rattle.storages.specs.declared.Placement.{Placement}
 use Rattle.storages.specs.declared.Storage.{Storage}
 use Rattle.storages.specs.Storage.{stored}
 use Rattle.storages.specs.File.{opens_storage, storages_by, declared}
-use Rattle.storages.proofs.Declared.{opens_inside}
+use Rattle.storages.proofs.Declared.{opens_inside, opened as opened_at}
 use Rattle.maps.specs.Maps.{TakenBelow}
 use Rattle.slots.specs.declared.Slot.{Slot}
 use Rattle.slots.specs.declared.Page.{Page}
@@ -261,3 +261,9 @@ module _ {file graph copies app₀ wrk₀ app wrk : List ℕ} {list : List Page}
       none : (x : State) (k : ℕ) → place_from g (map stored (storages_by k (drop at file))) x ≡ done x
       none x zero = refl
       none x (suc k) = ap (λ (ss : List R.Storage). place_from g (map stored ss) x) (pick_no (opens_storage (drop at file)) _ _ o)
+
+-- Where the code finds a storage at the front of the rest, there is room for one slot more.
+pub room_left : {file graph copies app₀ wrk₀ app wrk : List ℕ} {list : List Page} {n : ℕ} {ids kin numbers out : List ℕ} {at i : ℕ} {floor : Floor}
+    → Going file graph copies app₀ wrk₀ app wrk list n ids kin numbers out at i floor → (t u : List ℕ) (r : Bool) (z : Storage)
+    → t ≡ drop at file → r ≡ opens_storage t → r ≡ true → u ≡ drop at file → z ≡ stored (R.storage_in u) → n < 256
+room_left {file = file} {at = at} s t u r z et er e eu ez = front_few s u z eu ez (opened_at file t at r true et er e)

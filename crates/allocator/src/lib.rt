@@ -42,18 +42,18 @@ fn place_on(
     live: &mut [u64],
     graph: &mut [u64],
     copies: &mut [u64],
-    res: &mut [u8],
+    out: &mut [u8],
     passes: usize,
 ) -> Placing
-    requires { (length units.old ≡ 512) × (length live.old ≡ 2048) × (length graph.old ≡ 1024) × (length copies.old ≡ 1024) × (length res.old ≡ 2048)
+    requires { (length units.old ≡ 512) × (length live.old ≡ 2048) × (length graph.old ≡ 1024) × (length copies.old ≡ 1024) × (length out.old ≡ 2048)
         × Analysed file.now units.old live.old graph.old copies.old passes }
-    ensures { PlacesOn file.now units.old live.old graph.old copies.old res.old passes result
-        units.new live.new graph.new copies.new res.new }
+    ensures { PlacesOn file.now units.old live.old graph.old copies.old out.old passes result
+        units.new live.new graph.new copies.new out.new }
 {
     let mut records = [0u8; 2048];
     match allocate(file, graph, copies, &mut records) {
         Allocated::Done { placed, slots } => {
-            copy_bytes(res, &records);
+            copy_bytes(out, &records);
             Placing::Done {
                 placed,
                 slots,
@@ -77,28 +77,28 @@ fn place_in(
     live: &mut [u64],
     graph: &mut [u64],
     copies: &mut [u64],
-    res: &mut [u8],
+    out: &mut [u8],
 ) -> Placing
-    requires { (length units.old ≡ 512) × (length live.old ≡ 2048) × (length graph.old ≡ 1024) × (length copies.old ≡ 1024) × (length res.old ≡ 2048) }
-    ensures { PlacesIn file.now res.old result units.new live.new graph.new copies.new res.new }
+    requires { (length units.old ≡ 512) × (length live.old ≡ 2048) × (length graph.old ≡ 1024) × (length copies.old ≡ 1024) × (length out.old ≡ 2048) }
+    ensures { PlacesIn file.now out.old result units.new live.new graph.new copies.new out.new }
 {
     match graph::graph(file, units, live, graph, copies) {
         Graphed::Refused(r) => Placing::Refused(r),
-        Graphed::Passes(n) => place_on(file, units, live, graph, copies, res, n),
+        Graphed::Passes(n) => place_on(file, units, live, graph, copies, out, n),
     }
 }
 
-// Places every storage of a file: `result` then holds a record for each, in file order, and the other buffers what `graph` leaves there.
+// Places every storage of a file: `out` then holds a record for each, in file order, and the other buffers what `graph` leaves there.
 pub fn place(
     file: &[u8],
     units: &mut [u32],
     live: &mut [u64],
     graph: &mut [u64],
     copies: &mut [u64],
-    res: &mut [u8],
+    out: &mut [u8],
 ) -> Placing
-    ensures { Places file.now units.old live.old graph.old copies.old res.old result
-        units.new live.new graph.new copies.new res.new }
+    ensures { Places file.now units.old live.old graph.old copies.old out.old result
+        units.new live.new graph.new copies.new out.new }
 {
     if units.len() < 512 {
         return Placing::Refused(Refusal::Short);
@@ -112,7 +112,7 @@ pub fn place(
     if copies.len() < 1024 {
         return Placing::Refused(Refusal::Short);
     }
-    if res.len() < 2048 {
+    if out.len() < 2048 {
         return Placing::Refused(Refusal::Short);
     }
     place_in(
@@ -121,6 +121,6 @@ pub fn place(
         &mut live[..2048],
         &mut graph[..1024],
         &mut copies[..1024],
-        &mut res[..2048],
+        &mut out[..2048],
     )
 }

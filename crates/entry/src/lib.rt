@@ -1,4 +1,4 @@
-// Exported functions, for programs in Rust or C that link the library.
+// What a program in Rust or C calls; `entry_c` exports it.
 // Knows the public operations; gives each on numbers and buffers, with the answer in one number: what was found, or 2^32 times a refusal's number, and
 // its value.
 #![tactic(auto)]
@@ -20,8 +20,7 @@ fn pack(r: Refusal) -> u64
 }
 
 // `check`: the number of units.
-#[unsafe(no_mangle)]
-pub extern "C" fn check_file(file: &[u8], units: &mut [u32]) -> u64
+pub fn check_file(file: &[u8], units: &mut [u32]) -> u64
     ensures { Answers file.now units.old result units.new }
 {
     match records::check(file, units) {
@@ -41,50 +40,35 @@ fn filled(a: Answered) -> u64
 }
 
 // The units that the step at a place reads.
-#[unsafe(no_mangle)]
-pub extern "C" fn reads_at(file: &[u8], place: usize, units: &mut [u32], row: &mut [u64]) -> u64
+pub fn reads_at(file: &[u8], place: usize, units: &mut [u32], row: &mut [u64]) -> u64
     ensures { Fills read_row 8 file.now place units.old row.old result units.new row.new }
 {
     filled(units::unit_reads(file, place, units, row))
 }
 
 // The units that it writes.
-#[unsafe(no_mangle)]
-pub extern "C" fn writes_at(file: &[u8], place: usize, units: &mut [u32], row: &mut [u64]) -> u64
+pub fn writes_at(file: &[u8], place: usize, units: &mut [u32], row: &mut [u64]) -> u64
     ensures { Fills write_row 8 file.now place units.old row.old result units.new row.new }
 {
     filled(units::unit_writes(file, place, units, row))
 }
 
 // The storages of the units that it reads.
-#[unsafe(no_mangle)]
-pub extern "C" fn storage_reads_at(
-    file: &[u8],
-    place: usize,
-    units: &mut [u32],
-    row: &mut [u64],
-) -> u64
+pub fn storage_reads_at(file: &[u8], place: usize, units: &mut [u32], row: &mut [u64]) -> u64
     ensures { Fills storage_read_row 4 file.now place units.old row.old result units.new row.new }
 {
     filled(units::storage_reads(file, place, units, row))
 }
 
 // The storages of the units that it writes.
-#[unsafe(no_mangle)]
-pub extern "C" fn storage_writes_at(
-    file: &[u8],
-    place: usize,
-    units: &mut [u32],
-    row: &mut [u64],
-) -> u64
+pub fn storage_writes_at(file: &[u8], place: usize, units: &mut [u32], row: &mut [u64]) -> u64
     ensures { Fills storage_write_row 4 file.now place units.old row.old result units.new row.new }
 {
     filled(units::storage_writes(file, place, units, row))
 }
 
 // Its observable effect: 1 yes, 0 no.
-#[unsafe(no_mangle)]
-pub extern "C" fn effect_at(file: &[u8], place: usize, units: &mut [u32]) -> u64
+pub fn effect_at(file: &[u8], place: usize, units: &mut [u32]) -> u64
     ensures { Says file.now place units.old result units.new }
 {
     match units::observable_effect(file, place, units) {
@@ -95,8 +79,7 @@ pub extern "C" fn effect_at(file: &[u8], place: usize, units: &mut [u32]) -> u64
 }
 
 // The passes that the live sets of a function took.
-#[unsafe(no_mangle)]
-pub extern "C" fn live_of(file: &[u8], number: usize, units: &mut [u32], live: &mut [u64]) -> u64
+pub fn live_of(file: &[u8], number: usize, units: &mut [u32], live: &mut [u64]) -> u64
     ensures { Settles file.now number units.old live.old result units.new live.new }
 {
     match liveness::live(file, number, units, live) {
@@ -106,8 +89,7 @@ pub extern "C" fn live_of(file: &[u8], number: usize, units: &mut [u32], live: &
 }
 
 // The passes of all functions, with interference and copies in their rows.
-#[unsafe(no_mangle)]
-pub extern "C" fn graph_of(
+pub fn graph_of(
     file: &[u8],
     units: &mut [u32],
     live: &mut [u64],
@@ -125,19 +107,18 @@ pub extern "C" fn graph_of(
 
 // `place`, with a record for each storage in `result`: the passes of all functions times 262144, the slots opened times 512, and the storages
 // placed. Each remainder keeps its count within its own bits, and changes no count that a file can reach.
-#[unsafe(no_mangle)]
-pub extern "C" fn place_file(
+pub fn place_file(
     file: &[u8],
     units: &mut [u32],
     live: &mut [u64],
     graph: &mut [u64],
     copies: &mut [u64],
-    res: &mut [u8],
+    out: &mut [u8],
 ) -> u64
-    ensures { Puts file.now units.old live.old graph.old copies.old res.old result
-        units.new live.new graph.new copies.new res.new }
+    ensures { Puts file.now units.old live.old graph.old copies.old out.old result
+        units.new live.new graph.new copies.new out.new }
 {
-    match allocator::place(file, units, live, graph, copies, res) {
+    match allocator::place(file, units, live, graph, copies, out) {
         Placing::Done {
             placed,
             slots,

@@ -86,7 +86,7 @@ pub extern "C" fn graph_of(
     entry::graph_of(file, units, live, graph, copies)
 }
 
-// `place`, with a record for each storage in `res`: the passes of all functions times 262144, the slots opened times 512, and the storages placed.
+// `place`, with a record for each storage in `out`: the passes of all functions times 262144, the slots opened times 512, and the storages placed.
 #[unsafe(no_mangle)]
 pub extern "C" fn place_file(
     file: &[u8],
@@ -94,10 +94,10 @@ pub extern "C" fn place_file(
     live: &mut [u64],
     graph: &mut [u64],
     copies: &mut [u64],
-    res: &mut [u8],
+    out: &mut [u8],
 ) -> u64
-    ensures { Puts file.now units.old live.old graph.old copies.old res.old result
-        units.new live.new graph.new copies.new res.new }
+    ensures { Puts file.now units.old live.old graph.old copies.old out.old result
+        units.new live.new graph.new copies.new out.new }
 {
-    entry::place_file(file, units, live, graph, copies, res)
+    entry::place_file(file, units, live, graph, copies, out)
 }

@@ -20,7 +20,7 @@ pub enum Setting {
 pub fn put_done(
     page: &mut [u8],
     at: usize,
-    res: &[u8; 2048],
+    bytes: &[u8; 2048],
     placed: usize,
     slots: usize,
     passes: usize,
@@ -28,9 +28,9 @@ pub fn put_done(
 ) -> usize
     requires { at + 24000 ≤ length page.old }
     ensures ends { result ≤ at + 24000 }
-    ensures text { Follows (take at page.old) (placed_text setting placed slots passes res.now) (take result page.new) }
+    ensures text { Follows (take at page.old) (placed_text setting placed slots passes bytes.now) (take result page.new) }
 {
-    let end = put_places(page, at, res, placed, setting);
+    let end = put_places(page, at, bytes, placed, setting);
     put_counts(page, end, placed, slots, passes, setting)
 }
 
@@ -87,18 +87,18 @@ fn put_next(page: &mut [u8], at: usize, number: u64) -> usize
 fn put_places(
     page: &mut [u8],
     at: usize,
-    res: &[u8; 2048],
+    bytes: &[u8; 2048],
     placed: usize,
     setting: Setting,
 ) -> usize
     requires { at + 23552 ≤ length page.old }
     ensures ends { result ≤ at + 23552 }
-    ensures text { Follows (take at page.old) (place_lines setting (min placed 256) res.now) (take result page.new) }
+    ensures text { Follows (take at page.old) (place_lines setting (min placed 256) bytes.now) (take result page.new) }
 {
     let mut end = at;
     let mut i = 0;
     while i < placed && i < 256 {
-        end = put_place(page, end, tail_of(res, 8 * i), setting);
+        end = put_place(page, end, tail_of(bytes, 8 * i), setting);
         i += 1;
     }
     end

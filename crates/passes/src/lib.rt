@@ -96,7 +96,7 @@ fn turn(
     requires tracked { Tracked gens.now kills.now targets.now starts.now count first live.old moved.old (k + 1) }
     ensures live_after { (live.new ≡ visited gens.now kills.now targets.now starts.now count k live.old)
         × (result ≡ differs k live.old live.new) }
-    ensures tracked_2 { Tracked gens.now kills.now targets.now starts.now count first live.new moved.new k }
+    ensures tracked_after { Tracked gens.now kills.now targets.now starts.now count first live.new moved.new k }
 {
     if !first {
         if !leads_to(moved, targets, starts, k, count) {

@@ -19,8 +19,8 @@ pub returns-then-copies-lt1024 : goal.returns-then-copies-lt1024
 returns-then-copies-lt1024 c =
     short_analysis _ _ _ _ _ _ (graphs_short_copies _ _ _ _ _ c.if-units-lt512.false c.if-live-lt2048.false c.if-graph-lt1024.false c.if-copies-lt1024.true)
 
-pub returns-then-res-lt2048 : goal.returns-then-res-lt2048
-returns-then-res-lt2048 c = short_result _ _ _ _ _ _ c.if-res-lt2048.true
+pub returns-then-out-lt2048 : goal.returns-then-out-lt2048
+returns-then-out-lt2048 c = short_result _ _ _ _ _ _ c.if-out-lt2048.true
 
 pub slice_bounds-place_in-end-2 : goal.slice_bounds-place_in-end-2
 slice_bounds-place_in-end-2 c = search (rules, length-take-le)
@@ -40,9 +40,9 @@ slice_bounds-place_in-end-10 c = search (rules, length-take-le)
 pub place_in-requires : goal.place_in-requires
 place_in-requires c =
     let a = c.args in
-    (length-take-le 512 a.units.now (search rules), length-take-le 2048 a.live.now (search rules), length-take-le 1024 a.graph.now (search rules), length-take-le 1024 a.copies.now (search rules), length-take-le 2048 a.res.now (search rules))
+    (length-take-le 512 a.units.now (search rules), length-take-le 2048 a.live.now (search rules), length-take-le 1024 a.graph.now (search rules), length-take-le 1024 a.copies.now (search rules), length-take-le 2048 a.out.now (search rules))
 
 pub returns : goal.returns
 returns c =
-    places_all _ _ _ _ _ _ c.if-units-lt512.false c.if-live-lt2048.false c.if-graph-lt1024.false c.if-copies-lt1024.false c.if-res-lt2048.false
+    places_all _ _ _ _ _ _ c.if-units-lt512.false c.if-live-lt2048.false c.if-graph-lt1024.false c.if-copies-lt1024.false c.if-out-lt2048.false
     _ _ _ _ _ _ c.place_in.ensures

@@ -21,7 +21,7 @@ loop-k-preserved c =
     let l = c.loop-k in (
       passing_again _ _ _ _ _ c.requires.given (λ i. (c.type_inv.gens i).fits)
           (λ i. (c.type_inv.kills i).fits) _ _ _ _ l.k (omega arith) l.invariant.0 _ v.ensures.live_after.0 v.ensures.live_after.1,
-      v.ensures.tracked_2,
+      v.ensures.tracked_after,
     )
 
 pub shape_of-live : goal.shape_of-live

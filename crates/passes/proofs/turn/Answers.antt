@@ -27,11 +27,11 @@ returns-then-not-leads_to c =
         skipped _ _ _ _ _ q.given _ _ _ q.live_len.0 _ q.live_len.1 q.tracked f r.result r.ensures n,
         differs_never _ _ _ _ _ q.given _ _,
       );
-      tracked_2 = tracked_skip _ _ _ _ _ q.given _ _ _ q.live_len.0 _ q.live_len.1 q.tracked f r.result r.ensures n;
+      tracked_after = tracked_skip _ _ _ _ _ q.given _ _ _ q.live_len.0 _ q.live_len.1 q.tracked f r.result r.ensures n;
     }
 
 pub returns : goal.returns
 returns c =
     let q = c.requires in
     let v = c.visit-c.ensures in
-    record { live_after = v; tracked_2 = tracked_turn _ _ _ _ _ q.given _ _ _ q.live_len.0 _ q.live_len.1 q.tracked _ v.0 _ v.1 }
+    record { live_after = v; tracked_after = tracked_turn _ _ _ _ _ q.given _ _ _ q.live_len.0 _ q.live_len.1 q.tracked _ v.0 _ v.1 }

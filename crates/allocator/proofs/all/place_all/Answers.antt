@@ -3,9 +3,8 @@
 use mathlib.Core.Path.{sym, ap, ◌∙◌}
 use native.Mathlib.Omega.{arith}
 use lib.ListN.{length}
-use borrow.Author.Rules.{rules}
 use Rattle.storages.proofs.Declared.{opened, opens_inside}
-use Rattle.allocator.proofs.Going.{going_start, Follows, placed_follows, opened_follows, going_held, front_fits, front_few, going_refused, going_on, going_end, clear_long}
+use Rattle.allocator.proofs.Going.{going_start, Follows, placed_follows, opened_follows, going_held, front_fits, front_few, room_left, going_refused, going_on, going_end, clear_long}
 use Rattle.allocator.proofs.all.place_all.Goals as goal
 use Rattle.allocator.proofs.all.place_all.Goals.{in-Placed, in-Opened}
 
@@ -45,44 +44,26 @@ place_one-requires c =
       c.raise-floor.ensures,
     )
 
-pub enum_known-p : goal.enum_known-p
-enum_known-p c = search rules
-
 -- Where a storage opens a slot there is room for one more.
 pub offset_bounds-list-k : goal.offset_bounds-list-k
 offset_bounds-list-k c =
-    let f = c.args.file.now in
-    let q = opened f _ c.loop-list.at _ _ c.tail_of.ensures.0 c.opens_storage.ensures c.loop-list-test.true in
-    let few = front_few c.loop-list.invariant _ _ c.tail_of-in-loop-list.ensures.0 c.storage_at-s.ensures q in
-    omega arith
+    omega (arith, room_left c.loop-list.invariant _ _ _ _ c.tail_of.ensures.0 c.opens_storage.ensures c.loop-list-test.true c.tail_of-in-loop-list.ensures.0 c.storage_at-s.ensures)
 
 pub bounds-list-k : goal.bounds-list-k
 bounds-list-k c =
-    let f = c.args.file.now in
-    let q = opened f _ c.loop-list.at _ _ c.tail_of.ensures.0 c.opens_storage.ensures c.loop-list-test.true in
-    let few = front_few c.loop-list.invariant _ _ c.tail_of-in-loop-list.ensures.0 c.storage_at-s.ensures q in
-    omega arith
+    omega (arith, room_left c.loop-list.invariant _ _ _ _ c.tail_of.ensures.0 c.opens_storage.ensures c.loop-list-test.true c.tail_of-in-loop-list.ensures.0 c.storage_at-s.ensures)
 
 pub offset_bounds-list-k-in-Opened : goal.offset_bounds-list-k-in-Opened
 offset_bounds-list-k-in-Opened c =
-    let f = c.args.file.now in
-    let q = opened f _ c.loop-list.at _ _ c.tail_of.ensures.0 c.opens_storage.ensures c.loop-list-test.true in
-    let few = front_few c.loop-list.invariant _ _ c.tail_of-in-loop-list.ensures.0 c.storage_at-s.ensures q in
-    omega arith
+    omega (arith, room_left c.loop-list.invariant _ _ _ _ c.tail_of.ensures.0 c.opens_storage.ensures c.loop-list-test.true c.tail_of-in-loop-list.ensures.0 c.storage_at-s.ensures)
 
 pub bounds-list-k-in-Opened : goal.bounds-list-k-in-Opened
 bounds-list-k-in-Opened c =
-    let f = c.args.file.now in
-    let q = opened f _ c.loop-list.at _ _ c.tail_of.ensures.0 c.opens_storage.ensures c.loop-list-test.true in
-    let few = front_few c.loop-list.invariant _ _ c.tail_of-in-loop-list.ensures.0 c.storage_at-s.ensures q in
-    omega arith
+    omega (arith, room_left c.loop-list.invariant _ _ _ _ c.tail_of.ensures.0 c.opens_storage.ensures c.loop-list-test.true c.tail_of-in-loop-list.ensures.0 c.storage_at-s.ensures)
 
 pub overflow_add-n : goal.overflow_add-n
 overflow_add-n c =
-    let f = c.args.file.now in
-    let q = opened f _ c.loop-list.at _ _ c.tail_of.ensures.0 c.opens_storage.ensures c.loop-list-test.true in
-    let few = front_few c.loop-list.invariant _ _ c.tail_of-in-loop-list.ensures.0 c.storage_at-s.ensures q in
-    omega arith
+    omega (arith, room_left c.loop-list.invariant _ _ _ _ c.tail_of.ensures.0 c.opens_storage.ensures c.loop-list-test.true c.tail_of-in-loop-list.ensures.0 c.storage_at-s.ensures)
 
 pub returns-in-Refused : goal.returns-in-Refused
 returns-in-Refused c =

@@ -8,4 +8,4 @@ pub returns : goal.returns
 returns c =
     let p = c.requires in
     rows_blank _ _ _ _ p.0 p.1 c.clear.ensures c.clear-2.ensures
-    (omega (arith, p.0.len, c.rows-1.given)) (omega (arith, p.0.len, c.rows-1.given, c.rows-2-1.given))
+    (omega (arith, p.0.len)) (omega (arith, p.0.len))

@@ -11,7 +11,7 @@ returns-then-i-lt-KEPT c = found_kept _ _ _ _ _ _ _ _ _ c.row_for-b.ensures.0 c.
 pub uses_at-requires : goal.uses_at-requires
 uses_at-requires c =
     let p = c.requires in
-    (p.0, p.1, p.2, p.3, p.4, p.5, omega (arith, c.uses_at-arg-1.given), omega (arith, c.uses_at-arg-2-1.given))
+    (p.0, p.1, p.2, p.3, p.4, p.5, omega arith, omega arith)
 
 pub returns : goal.returns
 returns c =

@@ -80,12 +80,12 @@ loop-c-preserved c =
     let h = c.behind-own.ensures in
     let t = c.take_function-went.ensures in (
       t.sound,
-      (omega (arith, c.meets-1.given, l.invariant.1.0), omega (arith, c.copies-1.given, l.invariant.1.1), omega (arith, c.addressed-1.given, l.invariant.1.2)),
+      (omega (arith, l.invariant.1.0), omega (arith, l.invariant.1.1), omega (arith, l.invariant.1.2)),
       t.held.len,
       λ us g. walked_more _ us _ _ _ _ g l.c _ _ _ _ _ _ _ _ _ _ _ _ _ (l.invariant.3 us g) y (ap (λ (x : Cursor). x.at) h) (ap (λ (x : Cursor). x.k) h) t,
       t.held,
       t.fewer,
-      (omega (arith, c.gens-1.given, l.invariant.6.0), omega (arith, c.kills-1.given, l.invariant.6.1), omega (arith, c.targets-1.given, l.invariant.6.2), omega (arith, c.starts-1.given, l.invariant.6.3), omega (arith, c.reads-1.given, l.invariant.6.4), omega (arith, c.writes-1.given, l.invariant.6.5), omega (arith, c.places-1.given, l.invariant.6.6), omega (arith, c.counts-1.given, l.invariant.6.7), omega (arith, c.firsts-1.given, l.invariant.6.8)),
+      (omega (arith, l.invariant.6.0), omega (arith, l.invariant.6.1), omega (arith, l.invariant.6.2), omega (arith, l.invariant.6.3), omega (arith, l.invariant.6.4), omega (arith, l.invariant.6.5), omega (arith, l.invariant.6.6), omega (arith, l.invariant.6.7), omega (arith, l.invariant.6.8)),
     )
 
 pub shape_of-rows : goal.shape_of-rows

@@ -25,15 +25,15 @@ loop-i-preserved c =
       omega (arith, ltb-true),
       search rules,
       omega (arith, ltb-true),
-      place_more a.setting c.loop-i.i a.res.now _ c.tail_of.ensures.0 c.loop-i.invariant.4 c.put_place-end.ensures.text,
+      place_more a.setting c.loop-i.i a.bytes.now _ c.tail_of.ensures.0 c.loop-i.invariant.4 c.put_place-end.ensures.text,
     )
 
 pub returns-else-i-lt256 : goal.returns-else-i-lt256
 returns-else-i-lt256 c =
     let a = c.args in
-    record { ends = search rules; text = all_places a.setting a.placed c.loop-i.i a.res.now (omega (arith, ltb-false)) c.loop-i.invariant.4 }
+    record { ends = search rules; text = all_places a.setting a.placed c.loop-i.i a.bytes.now (omega (arith, ltb-false)) c.loop-i.invariant.4 }
 
 pub returns-after-loop-i : goal.returns-after-loop-i
 returns-after-loop-i c =
     let a = c.args in
-    record { ends = search rules; text = all_places a.setting a.placed c.loop-i.i a.res.now (omega arith) c.loop-i.invariant.4 }
+    record { ends = search rules; text = all_places a.setting a.placed c.loop-i.i a.bytes.now (omega arith) c.loop-i.invariant.4 }

@@ -8,7 +8,7 @@ use Rattle.lines.specs.Placed.{place_lines}
 use Rattle.lines.proofs.placing.put_places.Given as goal
 
 abbrev pub invariant-loop-i : goal.invariant-loop-i
-invariant-loop-i l = (l.i ≤ 256) × (l.end ≤ l.at + 92 * l.i) × (length l.page ≡ length l.initial.page) × (l.i ≤ l.placed) × Follows (take l.at l.initial.page) (place_lines l.setting l.i l.res) (take l.end l.page)
+invariant-loop-i l = (l.i ≤ 256) × (l.end ≤ l.at + 92 * l.i) × (length l.page ≡ length l.initial.page) × (l.i ≤ l.placed) × Follows (take l.at l.initial.page) (place_lines l.setting l.i l.bytes) (take l.end l.page)
 
 abbrev pub decreases-loop-i : goal.decreases-loop-i
 decreases-loop-i l = 256 - l.i

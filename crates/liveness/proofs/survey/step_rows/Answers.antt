@@ -6,7 +6,7 @@ use borrow.Author.Rules.{rules}
 use Rattle.liveness.proofs.survey.step_rows.Goals as goal
 
 pub union_from-requires-2 : goal.union_from-requires-2
-union_from-requires-2 c = (omega (arith, c.requires.9), omega (arith, c.requires.7, c.writes-1.given))
+union_from-requires-2 c = (omega (arith, c.requires.9), omega (arith, c.requires.7))
 
 pub returns : goal.returns
 returns c =

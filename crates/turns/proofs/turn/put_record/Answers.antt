@@ -9,18 +9,18 @@ pub put_u16-requires : goal.put_u16-requires
 put_u16-requires c = simp length-set (omega arith)
 
 pub bounds-out-at-2 : goal.bounds-out-at-2
-bounds-out-at-2 c = omega (arith, simp length-set at c.out-1.given)
+bounds-out-at-2 c = omega (arith, simp length-set at c.put_u16.auto.out)
 
 pub put_u16-requires-2 : goal.put_u16-requires-2
-put_u16-requires-2 c = simp length-set (omega (arith, simp length-set at c.out-1.given))
+put_u16-requires-2 c = simp length-set (omega (arith, simp length-set at c.put_u16.auto.out))
 
 pub put_u16-requires-3 : goal.put_u16-requires-3
 put_u16-requires-3 c =
-    omega (arith, simp length-set at c.out-2-1.given, simp length-set at c.out-1.given)
+    omega (arith, simp length-set at c.put_u16-2.auto.out, simp length-set at c.put_u16.auto.out)
 
 pub shape_of-out : goal.shape_of-out
 shape_of-out c =
-    omega (arith, c.out-3-1.given, simp length-set at c.out-2-1.given, simp length-set at c.out-1.given)
+    omega (arith, c.put_u16-3.auto.out, simp length-set at c.put_u16-2.auto.out, simp length-set at c.put_u16.auto.out)
 
 pub returns : goal.returns
 returns c =

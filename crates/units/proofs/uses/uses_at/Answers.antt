@@ -9,14 +9,14 @@ use Rattle.units.proofs.uses.uses_at.Goals as goal
 
 pub abi_rows-requires : goal.abi_rows-requires
 abi_rows-requires c =
-    (c.requires.0, c.requires.1, c.requires.2, c.requires.3, omega (arith, c.reads-1.given, c.requires.6), omega (arith, c.writes-1.given, c.requires.7))
+    (c.requires.0, c.requires.1, c.requires.2, c.requires.3, omega (arith, c.requires.6), omega (arith, c.requires.7))
 
 pub operand_rows-count-requires : goal.operand_rows-count-requires
 operand_rows-count-requires c = (
   omega (arith, c.tail_of-operands.ensures.1, c.tail_of-tail.ensures.1, c.requires.0, c.requires.4),
   c.requires.1,
-  omega (arith, c.reads-2-1.given, c.reads-1.given, c.requires.6),
-  omega (arith, c.writes-2-1.given, c.writes-1.given, c.requires.7),
+  omega (arith, c.requires.6),
+  omega (arith, c.requires.7),
 )
 
 pub overflow_add-result : goal.overflow_add-result
@@ -33,7 +33,7 @@ overflow_add-result-3 c =
 
 pub shape_of-reads : goal.shape_of-reads
 shape_of-reads c =
-    omega (arith, c.reads-3-1.given, c.reads-2-1.given, c.reads-1.given, c.requires.6)
+    omega (arith, c.requires.6)
 
 pub returns : goal.returns
 returns c =
