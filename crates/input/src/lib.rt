@@ -2,7 +2,7 @@
 // Knows readers alone; gives `read_full`, by which the programs read standard input.
 #![tactic(auto)]
 
-ghost use Rattle.std.specs.Prelude.{◌≡◌, ◌<◌, IfOk, length, take};
+ghost use Rattle.std.specs.Prelude.{◌≡◌, ◌<◌, ◌≤◌, IfOk, OnErr, ℕ, length, take};
 ghost use Rattle.std.specs.Io.{ReadsAtMost};
 ghost use Rattle.std.specs.Io.KnownBytes.{Consumes, IsAtEnd};
 
@@ -14,6 +14,8 @@ pub fn read_full<R: Read>(from: &mut R, buf: &mut [u8]) -> Result<usize>
     ensures fits { ReadsAtMost result buf.new }
     ensures bytes { IfOk result (λ n. Consumes (R.remaining from.old) (R.remaining from.new) (take n buf.new)) }
     ensures ends { IfOk result (λ n. n < length buf.new → IsAtEnd (R.remaining from.new)) }
+    ensures broken { OnErr result ((n : ℕ) × (n ≤ length buf.new)
+        × Consumes (R.remaining from.old) (R.remaining from.new) (take n buf.new)) }
 {
     let mut done = 0;
     while done < buf.len() {

@@ -1,5 +1,7 @@
 -- What the program `place` prints of a file, as a list of bytes (docs/DECISIONS.md, "Programs").
-use Rattle.std.specs.Prelude.{ℕ, List, replicate}
+use Rattle.std.specs.Prelude.{ℕ, List, replicate, take}
+use Rattle.std.specs.Io.KnownBytes.{Appends}
+use Rattle.std.specs.declared.option.Option.{Option}
 use Rattle.fields.specs.Edition.{one}
 use Rattle.lines.specs.Placed.{placed_text, refused_text}
 use Rattle.lines.specs.declared.placing.Setting.{Setting}
@@ -25,3 +27,7 @@ placing_text setting f units =
 -- What the program `place` prints of a file.
 abbrev pub printed : List ℕ → List ℕ
 printed f = placing_text Alone f (replicate 512 0)
+
+-- Known bytes grow by a front of a text: by its first n bytes for some n, all of them at the most.
+abbrev pub AppendsFront : Option (List ℕ) → Option (List ℕ) → List ℕ → Type 0
+AppendsFront old new text = (n : ℕ) × Appends old new (take n text)

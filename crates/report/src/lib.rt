@@ -10,9 +10,9 @@ mod record_places;
 mod steps;
 mod storage_lines;
 
-ghost use Rattle.std.specs.Prelude.{◌≡◌, ◌≤◌, OnOk, take};
+ghost use Rattle.std.specs.Prelude.{◌≡◌, ◌≤◌, OnErr, OnOk, take};
 ghost use Rattle.std.specs.Io.KnownBytes.{Appends};
-ghost use Rattle.report.specs.Printed.{printed};
+ghost use Rattle.report.specs.Printed.{AppendsFront, printed};
 
 use functions::put_functions;
 use lines::answer::put_answer;
@@ -35,14 +35,16 @@ pub fn report<W: Write>(out: &mut W, file: &[u8]) -> Result<()> {
 // Writes the placing of a file alone, or the one line of its refusal. So what the program `place`
 // prints is fixed by the contract of `place` of `allocator`.
 pub fn place<W: Write>(out: &mut W, file: &[u8]) -> Result<()>
-    ensures { OnOk result (Appends (W.contents out.old) (W.contents out.new) (printed file.now)) }
+    ensures whole { OnOk result (Appends (W.contents out.old) (W.contents out.new) (printed file.now)) }
+    ensures cut { OnErr result (AppendsFront (W.contents out.old) (W.contents out.new) (printed file.now)) }
 {
     let mut page = [0u8; 65536];
     write_placing(out, &mut page, file)
 }
 
 fn write_placing<W: Write>(out: &mut W, page: &mut [u8; 65536], file: &[u8]) -> Result<()>
-    ensures { OnOk result (Appends (W.contents out.old) (W.contents out.new) (printed file.now)) }
+    ensures whole { OnOk result (Appends (W.contents out.old) (W.contents out.new) (printed file.now)) }
+    ensures cut { OnErr result (AppendsFront (W.contents out.old) (W.contents out.new) (printed file.now)) }
 {
     let end = put_placed(page, file);
     write_out(out, page, end)

@@ -1,17 +1,38 @@
 // The page of a text that may be longer than the page: what stands there is written out when little
 // room is left. Each function puts its text at a place and answers where that text ends.
-ghost use Rattle.std.specs.Prelude.{◌+◌, ◌≤◌, IfOk, OnOk, length, take};
+ghost use Rattle.std.specs.Prelude.{◌+◌, ◌≤◌, IfOk, OnErr, OnOk, length, take};
 ghost use Rattle.std.specs.Io.KnownBytes.{Appends};
+ghost use Rattle.report.specs.Printed.{AppendsFront};
 
 use lines::text::{put, put_number};
-use std::io::{Result, Write};
+use std::io::{Error, ErrorKind, Result, Write};
 
-// Writes the first bytes of a page.
+// Writes the first bytes of a page. It is the loop of `write_all` over again, since that promises
+// nothing of what an error leaves. The turns are counted, as there, so that the loop ends.
 pub fn write_out<W: Write>(out: &mut W, page: &[u8], count: usize) -> Result<()>
     requires { count ≤ length page.now }
-    ensures { OnOk result (Appends (W.contents out.old) (W.contents out.new) (take count page.now)) }
+    ensures whole { OnOk result (Appends (W.contents out.old) (W.contents out.new) (take count page.now)) }
+    ensures cut { OnErr result (AppendsFront (W.contents out.old) (W.contents out.new) (take count page.now)) }
 {
-    out.write_all(&page[..count])
+    let mut done = 0;
+    'writes: for _ in 0..u64::MAX {
+        if done >= count {
+            return Ok(());
+        }
+        match out.write(&page[done..count]) {
+            Ok(0) => {
+                let message = "failed to write whole buffer";
+                return Err(Error::new(ErrorKind::WriteZero, message));
+            }
+            Ok(n) => done += n,
+            Err(e) => {
+                if e.kind() != ErrorKind::Interrupted {
+                    return Err(e);
+                }
+            }
+        }
+    }
+    Err(Error::from(ErrorKind::TimedOut))
 }
 
 // Makes room for so many bytes: where fewer are left, the page is written out and starts anew.

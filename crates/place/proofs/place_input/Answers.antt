@@ -1,14 +1,14 @@
--- `place::place_input` writes the text of the bytes that it read. They are all that the reader had, or the first 16,385 of them.
+-- `place::place_input` writes the text of the bytes that it read, or a front of it. They are all that the reader had, or the first 16,385
+-- of them. After a failed read it writes nothing.
 use Rattle.std.proofs.Common.{◌≡◌, ℕ, zero, suc, ◌+◌, ◌-◌, ◌<◌, ◌≤◌, List, [], ◌++◌, arith, length, take, sym, ap, ◌∙◌, subst, append-nil, length-take-le, rules, refl}
 use Rattle.std.proofs.Math.Seq.{take-append-add}
+use Rattle.std.proofs.lemmas.Option.{IfSome_then}
+use Rattle.std.proofs.lemmas.Result.{on_err_weaker, on_ok_weaker}
 use Rattle.std.specs.Option.{IfSome}
-use Rattle.std.specs.Result.{OnOk}
 use Rattle.std.specs.declared.option.Option.{Option}
 use Rattle.std.specs.declared.option.Option.TheVariants.{None, Some}
-use Rattle.std.specs.declared.result.Result.{Result}
-use Rattle.std.specs.declared.result.Result.TheVariants.{Ok, Err}
 use Rattle.std.specs.Io.KnownBytes.{Appends, Consumes, IsAtEnd}
-use Rattle.report.specs.Printed.{printed}
+use Rattle.report.specs.Printed.{AppendsFront, printed}
 use Rattle.place.proofs.place_input.Goals as goal
 
 -- Nothing stands behind a front that is shorter than k, so as far as k the front is all.
@@ -35,15 +35,19 @@ whole (Some xs) (Some ys) buf n k size fits taken ends =
     let long : length (take n buf) ≡ n = length-take-le n buf (omega arith) in
     front_is (take n buf) ys k (omega arith) (λ h. ends (omega arith)) ∙ ap (take k) (sym taken)
 
--- The text of a list is that of an equal one.
-retold : {A E : Type 0} (r : Result A E) (old before after : Option (List ℕ)) (text : List ℕ) (k : ℕ)
-    → IfSome old (λ bytes. text ≡ take k bytes) → OnOk r (Appends before after (printed text))
-    → OnOk r (IfSome old (λ bytes. Appends before after (printed (take k bytes))))
-retold (Ok x) None before after text k same told = tt
-retold (Ok x) (Some bytes) before after text k same told = subst (λ t. Appends before after (printed t)) same told
-retold (Err e) old before after text k same told = tt
+-- What is said of the text of a list is said of that of an equal one.
+retold : (P : List ℕ → Type 0) (old : Option (List ℕ)) (file : List ℕ) (k : ℕ)
+    → IfSome old (λ bytes. file ≡ take k bytes) → P (printed file) → IfSome old (λ bytes. P (printed (take k bytes)))
+retold P old file k same told = IfSome_then old same (λ bytes e. subst (λ f. P (printed f)) e told)
 
-pub returns : goal.returns
-returns g c =
+pub returns-clause-whole : goal.returns-clause-whole
+returns-clause-whole g c =
     let l = c.in_ok-length in
-    retold c.place.result _ _ _ _ 16385 (whole _ _ _ l.length 16385 (search rules) (search rules) l.ensures.bytes l.ensures.ends) c.place.ensures
+    let same = whole _ _ _ l.length 16385 (search rules) (search rules) l.ensures.bytes l.ensures.ends in
+    on_ok_weaker c.place.result (retold (Appends _ _) _ _ 16385 same) c.place.ensures.whole
+
+pub returns-clause-cut : goal.returns-clause-cut
+returns-clause-cut g c =
+    let l = c.in_ok-length in
+    let same = whole _ _ _ l.length 16385 (search rules) (search rules) l.ensures.bytes l.ensures.ends in
+    on_err_weaker c.place.result (retold (AppendsFront _ _) _ _ 16385 same) c.place.ensures.cut
