@@ -1,5 +1,6 @@
 -- Laws of the public operation: what the analysis leaves and what the placing comes to make the one outcome; a refusal clears the words that are needed and
 -- leaves the result. Each way out is one law.
+use Rattle.std.specs.Prelude.{Result, Ok, Err}
 use mathlib.Core.Path.{◌≡◌, refl, sym, ap, ◌∙◌, subst}
 use mathlib.Core.Bool.{Bool, true, false}
 use mathlib.Core.List.{List, [], ◌++◌, append-nil, map}
@@ -26,8 +27,6 @@ use Rattle.storages.specs.File.{declared}
 use Rattle.storages.proofs.Declared.{declared_is, header_there, header_is}
 use Rattle.graph.specs.Graph.{interferes, copied}
 use Rattle.graph.specs.Graphs as G
-use Rattle.graph.specs.declared.Graphed.{Graphed}
-use Rattle.graph.specs.declared.Graphed.TheVariants as graphed
 use Rattle.graph.proofs.Drawing.{none}
 use Rattle.places.specs.Place.{Given, Outcome, done, refused, place, records_of}
 use Rattle.turns.specs.Held.{Tells}
@@ -58,7 +57,7 @@ module _ (f words live graph copies : List ℕ) (n : ℕ) (h : Analysed f words 
   analysed : Accepted f graph copies
   analysed = go (check one f) refl h
     where
-      go : (a : Answer) → check one f ≡ a → record { answer = graphed.Passes n; units = words; live = live; graph = graph; copies = copies } ≡ G.graphed_by one f [] [] [] [] a
+      go : (a : Answer) → check one f ≡ a → record { answer = Ok n; units = words; live = live; graph = graph; copies = copies } ≡ G.graphed_by one f [] [] [] [] a
           → Accepted f graph copies
       go (units us) e q = record {
         us = us;
@@ -149,24 +148,24 @@ module _ (f words live graph copies : List ℕ) (u : length words ≡ 512) (l : 
       (le-ltb (length copies) 1024 (omega arith)))
       ∙ exact_by (check one f)
 
-  module _ (answer : Graphed) (words' live' graph' copies' : List ℕ) (h : G.Graphs f words live graph copies answer words' live' graph' copies') where
+  module _ (answer : Result ℕ Refusal) (words' live' graph' copies' : List ℕ) (h : G.Graphs f words live graph copies answer words' live' graph' copies') where
     in_words : record { answer = answer; units = words'; live = live'; graph = graph'; copies = copies' } ≡ G.graphed_by one f [] [] [] [] (check one f)
     in_words = h ∙ graphed_exact
 
-    pub after_refusal : (x : Refusal) (result : List ℕ) → answer ≡ graphed.Refused x → PlacesIn f result (Refused x) words' live' graph' copies' result
+    pub after_refusal : (x : Refusal) (result : List ℕ) → answer ≡ Err x → PlacesIn f result (Refused x) words' live' graph' copies' result
     after_refusal x result e = rw (sym in_words, e)
 
-    pub after_passes : (n : ℕ) → answer ≡ graphed.Passes n → Analysed f words' live' graph' copies' n
-    after_passes n e = ap (λ (a : Graphed). record { answer = a; units = words'; live = live'; graph = graph'; copies = copies' }) (sym e) ∙ in_words
+    pub after_passes : (n : ℕ) → answer ≡ Ok n → Analysed f words' live' graph' copies' n
+    after_passes n e = ap (λ (a : Result ℕ Refusal). record { answer = a; units = words'; live = live'; graph = graph'; copies = copies' }) (sym e) ∙ in_words
 
-    pub after_placing : (n : ℕ) (result : List ℕ) (r : Placing) (words'' live'' graph'' copies'' result'' : List ℕ) → answer ≡ graphed.Passes n
+    pub after_placing : (n : ℕ) (result : List ℕ) (r : Placing) (words'' live'' graph'' copies'' result'' : List ℕ) → answer ≡ Ok n
         → PlacesOn f words' live' graph' copies' result n r words'' live'' graph'' copies'' result'' → PlacesIn f result r words'' live'' graph'' copies'' result''
     after_placing n result r words'' live'' graph'' copies'' result'' e p = p ∙ rw (sym in_words, e)
 
 -- ---- all buffers
 
 module _ (f words live graph copies result : List ℕ) where
-  short_by : (t : Bool) (o : G.Outcome) → record { answer = graphed.Refused Short; units = words; live = live; graph = graph; copies = copies } ≡ o
+  short_by : (t : Bool) (o : G.Outcome) → record { answer = Err Short; units = words; live = live; graph = graph; copies = copies } ≡ o
       → record { answer = Refused Short; units = words; live = live; graph = graph; copies = copies; result = result }
       ≡ pick t (record { answer = Refused Short; units = words; live = live; graph = graph; copies = copies; result = result })
       (placed_from one f o words live graph copies result)
@@ -175,7 +174,7 @@ module _ (f words live graph copies result : List ℕ) where
   short_by false o e = rw (sym e)
 
   -- A buffer that the analysis finds too short, whether or not the result is.
-  pub short_analysis : G.Graphs f words live graph copies (graphed.Refused Short) words live graph copies
+  pub short_analysis : G.Graphs f words live graph copies (Err Short) words live graph copies
       → Places f words live graph copies result (Refused Short) words live graph copies result
   unfolding placed
   short_analysis e = short_by (ltb (length result) 2048) (G.graphed one f words live graph copies) e

@@ -1,5 +1,6 @@
 -- The maps hold nothing but the low bytes and what the placed storages touch: a step that takes room takes the bits of that room and no other, and one that
 -- joins a slot takes none. So a search that fails fails for want of room.
+use Rattle.std.specs.Prelude.{Option, Some, None, Result, Ok, Err}
 use mathlib.Core.Path.{◌≡◌, sym, ap, ◌∙◌, subst}
 use mathlib.Core.Logic.{◌⊎◌, inl, inr}
 use mathlib.Core.Bool.{Bool, false}
@@ -21,12 +22,7 @@ use Rattle.storages.specs.declared.Space.TheVariants.{App, Work}
 use Rattle.storages.specs.Storage.{tries}
 use Rattle.storages.specs.Room.{room, within, touches}
 use Rattle.units.specs.Sets.{any}
-use Rattle.maps.specs.declared.Found.{Found}
-use Rattle.maps.specs.declared.Found.TheVariants.{Nothing, At}
-use Rattle.maps.specs.declared.FoundBit.TheVariants.{NoBit}
 use Rattle.maps.proofs.Laws.{FirstWindow, clear_in, LowClear, low_clear_lem, HighBit}
-use Rattle.places.specs.declared.choose.Chosen.{Chosen}
-use Rattle.places.specs.declared.choose.Chosen.TheVariants.{Spot, Refused}
 use Rattle.places.specs.Memory.{Maps, map_of, fresh}
 use Rattle.places.specs.Place.{Given, slot_for, choose, Placed, State, Outcome, done, refused, take_room, step_by, step, start, place}
 use Rattle.places.specs.Legal.{FixedSmall}
@@ -36,6 +32,8 @@ use Rattle.turns.proofs.Turns.{After, steps_keep}
 use Rattle.places.proofs.Choosing.{Good, Sits, choose_sits}
 use Rattle.allocator.proofs.Keeping.{room_of, Covers, Keeps, start_keeps}
 use Rattle.allocator.proofs.Taking.{step_keeps}
+use Rattle.storages.specs.declared.Placement.{Placement}
+use Rattle.records.specs.declared.Refusal.{Refusal}
 
 -- Some placed storage touches the bit.
 unfoldable pub touched : List Placed → Space → ℕ → ℕ → Bool
@@ -84,20 +82,20 @@ pub step_exact : (g : Given) (a f w : ℕ) (s : Storage) (x : State) → g.hi �
 unfolding step
 step_exact g a f w s x l b h e = by (slot_for g s x.slots)
   where
-    takes : (r : Chosen) → Good (Sits g s x.maps s.fixed) r → After (Exact f) (take_room s x r)
-    takes (Refused r) c = tt
-    takes (Spot p) c = λ sp i k t. go sp i k (reserve_only x.maps (room s.len p) sp i k c.0 t)
+    takes : (r : Result Placement Refusal) → Good (Sits g s x.maps s.fixed) r → After (Exact f) (take_room s x r)
+    takes (Err r) c = tt
+    takes (Ok p) c = λ sp i k t. go sp i k (reserve_only x.maps (room s.len p) sp i k c.0 t)
       where
         new : Placed
-        new = record { what = s; spot = p; slot = pick (tries s) (At (length x.slots)) Nothing }
+        new = record { what = s; spot = p; slot = pick (tries s) (Some (length x.slots)) None }
 
         go : (sp : Space) (i k : ℕ) → T (held x.maps sp i k) ⊎ T (within (room s.len p) sp i k) → Taken f (x.placed ++ (new ∷ [])) sp i k
         go sp i k (inl u) = wider f x.placed new sp i k (e sp i k u)
         go sp i k (inr u) = its_own f x.placed new sp i k u
 
-    by : (r : Found) → After (Exact f) (step_by g s x r)
-    by (At k) = λ sp i n t. wider f x.placed _ sp i n (e sp i n t)
-    by Nothing = takes (choose g s x.maps) (choose_sits g s x.maps (omega (arith, h.app_size)) b)
+    by : (r : Option ℕ) → After (Exact f) (step_by g s x r)
+    by (Some k) = λ sp i n t. wider f x.placed _ sp i n (e sp i n t)
+    by None = takes (choose g s x.maps) (choose_sits g s x.maps (omega (arith, h.app_size)) b)
 
 -- ---- The maps are exact
 
@@ -143,7 +141,7 @@ no_bits : (b : ℕ) → ((k : ℕ) → bit b k ≡ false) → b ≡ 0
 no_bits b h = word_ext b b 0 (lt_pow b) (omega (arith, lt_pow b)) (λ k _. bit_eq b 0 k (h k ∙ sym (bit_zero k)))
 
 -- No window of n bytes is free of low bytes and of touched bits.
-pub no_window_free : (f n : ℕ) (x : State) (sp : Space) → Exact f x → FirstWindow n (map_of sp x.maps) Nothing
+pub no_window_free : (f n : ℕ) (x : State) (sp : Space) → Exact f x → FirstWindow n (map_of sp x.maps) None
     → (o : ℕ) → o < length (map_of sp x.maps) → o + n ≤ length (map_of sp x.maps)
     → ((i k : ℕ) → o ≤ i → i < o + n → Taken f x.placed sp i k → ⊥) → ⊥
 unfolding held
@@ -151,9 +149,9 @@ no_window_free f n x sp e none o l b free =
     none o l (clear_in n o (map_of sp x.maps) b (λ j p. no_bits _ (λ k. T_false _ (λ t. free (o + j) k (omega arith) (omega arith) (e sp (o + j) k t)))))
 
 -- Each bit of a range without a clear bit is low or touched.
-pub no_bit_free : (f lo hi : ℕ) (x : State) (sp : Space) → Exact f x → HighBit lo hi (map_of sp x.maps) NoBit
+pub no_bit_free : (f lo hi : ℕ) (x : State) (sp : Space) → Exact f x → HighBit lo hi (map_of sp x.maps) None
     → (i k : ℕ) → lo ≤ i → i < hi → k < 8 → Taken f x.placed sp i k
 unfolding held
 no_bit_free f lo hi x sp e h i k l b c =
-    let full : LowClear (get_or (map_of sp x.maps) i 0) Nothing = subst (LowClear (get_or (map_of sp x.maps) i 0)) (h i l b) (low_clear_lem (get_or (map_of sp x.maps) i 0)) in
+    let full : LowClear (get_or (map_of sp x.maps) i 0) None = subst (LowClear (get_or (map_of sp x.maps) i 0)) (h i l b) (low_clear_lem (get_or (map_of sp x.maps) i 0)) in
     e sp i k (T_yes (full k c))

@@ -1,5 +1,6 @@
 -- The walk over the storage records of a file. The storages still ahead, placed from the state that the words stand for, come to what all of them come to from
 -- the start; a turn takes the record at the front, and at the end none is ahead.
+use Rattle.std.specs.Prelude.{Option, Some, None, Result, Ok, Err}
 use mathlib.Core.Path.{◌≡◌, refl, sym, ap, ◌∙◌, subst}
 use mathlib.Core.Bool.{Bool, true, false}
 use mathlib.Core.List.{List, [], ◌∷◌, map}
@@ -24,8 +25,6 @@ use Rattle.slots.specs.declared.Slot.{Slot}
 use Rattle.slots.specs.declared.Page.{Page}
 use Rattle.slots.specs.Slots.{no_page, slots_in, opened}
 use Rattle.slots.proofs.Pages.{Full, full_none, full_put, number_put}
-use Rattle.turns.specs.declared.turn.Verdict.{Verdict}
-use Rattle.turns.specs.declared.turn.Verdict.TheVariants.{Placed, Opened, Refused}
 use Rattle.allocator.specs.declared.all.Allocated.TheVariants as allocated
 use Rattle.places.specs.declared.memory.Floor.{Floor}
 use Rattle.places.specs.Memory.{Solid}
@@ -124,17 +123,17 @@ module _ (file graph copies app wrk : List ℕ) (list : List Page) (ids kin numb
 -- ---- The slots after a turn
 
 -- The storage was placed.
-abbrev Went : Verdict → Type 0
-Went Placed = Unit {0}
-Went (Opened p) = Unit {0}
-Went (Refused r) = ⊥
+abbrev Went : Result (Option Placement) Refusal → Type 0
+Went (Ok None) = Unit {0}
+Went (Ok (Some p)) = Unit {0}
+Went (Err r) = ⊥
 
-module _ (list : List Page) (n : ℕ) (z : Storage) (v : Verdict) (list' : List Page) (n' : ℕ) where
+module _ (list : List Page) (n : ℕ) (z : Storage) (v : Result (Option Placement) Refusal) (list' : List Page) (n' : ℕ) where
   abbrev pub Follows : Type 0
   Follows = Went v × (slots_in list' ≡ list_after (slots_in list) n z v) × (n' ≡ count_after n v) × (length list' ≡ 16) × Full list'
 
   module _ (pages : length list ≡ 16) (full : Full list) where
-    pub placed_follows : v ≡ Placed → list' ≡ list → n' ≡ n → Follows
+    pub placed_follows : v ≡ (Ok None) → list' ≡ list → n' ≡ n → Follows
     placed_follows e q m = (
       subst Went (sym e) tt,
       ap slots_in q ∙ sym (ap (list_after (slots_in list) n z) e),
@@ -144,7 +143,7 @@ module _ (list : List Page) (n : ℕ) (z : Storage) (v : Verdict) (list' : List 
     )
 
     -- The slot that the storage opened is the one that was put behind the others, into its page.
-    pub opened_follows : n < 256 → (p : Placement) (y : Slot) (d page : Page) → v ≡ Opened p → y ≡ opened z p
+    pub opened_follows : n < 256 → (p : Placement) (y : Slot) (d page : Page) → v ≡ Ok (Some p) → y ≡ opened z p
         → page ≡ record { slots = set (get_or list (n / 16) d).slots (n % 16) y } → list' ≡ set list (n / 16) page → n' ≡ n + 1 → Follows
     opened_follows l p y d page e b w q m =
         let here : n < length list * 16 = omega arith in
@@ -188,15 +187,15 @@ module _ {file graph copies app₀ wrk₀ app wrk : List ℕ} {list : List Page}
     pub front_few : n < 256
     front_few = omega (arith, front_fits.0, going_held.1.kept.few)
 
-    module _ (v : Verdict) (app' wrk' ids' kin' numbers' out' : List ℕ)
+    module _ (v : Result (Option Placement) Refusal) (app' wrk' ids' kin' numbers' out' : List ℕ)
         (turn : (g : Given) (x : State) → Tells g graph copies → g.lo ≡ 0 → g.hi ≡ length app → Held x app wrk (slots_in list) n ids kin numbers out i
         → TurnedBy (step g z x) v app' wrk' (list_after (slots_in list) n z v) (count_after n v) ids' kin' numbers' out' (i + 1)) where
-      pub going_refused : (r : Refusal) → v ≡ Refused r → (g : Given) → Tells g graph copies → g.lo ≡ 0 → g.hi ≡ length app₀
+      pub going_refused : (r : Refusal) → v ≡ Err r → (g : Given) → Tells g graph copies → g.lo ≡ 0 → g.hi ≡ length app₀
           → place_from g (map stored (declared file)) (begun app₀ wrk₀) ≡ refused r
       going_refused r e g t lo hi =
           let k = front_cons file at s.fuel s.inside s.enough o in
           let h = s.held g t lo hi in
-          let q = subst (λ (u : Verdict). TurnedBy (step g z h.0) u app' wrk' (list_after (slots_in list) n z u) (count_after n u) ids' kin' numbers' out' (i + 1)) e (turn g h.0 t lo (hi ∙ sym s.app_long) h.1) in
+          let q = subst (λ (u : Result (Option Placement) Refusal). TurnedBy (step g z h.0) u app' wrk' (list_after (slots_in list) n z u) (count_after n u) ids' kin' numbers' out' (i + 1)) e (turn g h.0 t lo (hi ∙ sym s.app_long) h.1) in
           sym h.2 ∙ ap (λ (ss : List R.Storage). place_from g (map stored ss) h.0) k.2
           ∙ place_refused g (stored (R.storage_in (drop at file))) _ h.0 r (ap (λ (y : Storage). step g y h.0) (sym front_is) ∙ q)
 
@@ -205,11 +204,11 @@ module _ {file graph copies app₀ wrk₀ app wrk : List ℕ} {list : List Page}
           → (y : State) × (u ≡ done y) × Held y app' wrk' (slots_in list') n' ids' kin' numbers' out' (i + 1)
       leaves list' n' f u d = go v f.0 (rw (f.1, f.2) d)
         where
-          go : (w : Verdict) → Went w → TurnedBy u w app' wrk' (slots_in list') n' ids' kin' numbers' out' (i + 1)
+          go : (w : Result (Option Placement) Refusal) → Went w → TurnedBy u w app' wrk' (slots_in list') n' ids' kin' numbers' out' (i + 1)
               → (y : State) × (u ≡ done y) × Held y app' wrk' (slots_in list') n' ids' kin' numbers' out' (i + 1)
-          go Placed k e = e
-          go (Opened p) k e = e
-          go (Refused _) k e = elim k [ ]
+          go (Ok None) k e = e
+          go (Ok (Some p)) k e = e
+          go (Err _) k e = elim k [ ]
 
       -- What was taken still is.
       still_solid : (list' : List Page) (n' : ℕ) → Follows list n z v list' n' → (up : Floor) → Solid up app wrk → Solid up app' wrk'

@@ -1,5 +1,6 @@
 -- What every state of placing keeps, and that a storage which joins a slot keeps it. A slot's room is covered by the maps and shares no bit with another
 -- slot's, and whoever touches it is a member: so a newcomer that fits shares bits with members alone, and interferes with none of them.
+use Rattle.std.specs.Prelude.{Some, None}
 use mathlib.Core.Path.{◌≡◌, sym, ◌∙◌, subst}
 use mathlib.Core.List.{List, [], ◌∷◌}
 use Prim.Native.Nat.{ℕ, ◌<◌, ◌≤◌}
@@ -10,7 +11,6 @@ use lib.Dec.{T, eqb, eqb_refl, not_T}
 use lib.ListN.{length, set, length-set}
 use lib.Seq.{get_or-set_same, get_or-set_other}
 use Rattle.fields.specs.Pick.{All}
-use Rattle.storages.specs.declared.Fixed.TheVariants.{Free}
 use Rattle.storages.specs.declared.Storage.{Storage}
 use Rattle.storages.specs.declared.Space.{Space}
 use Rattle.storages.specs.declared.Space.TheVariants.{App}
@@ -18,7 +18,6 @@ use Rattle.storages.specs.declared.Room.{Room}
 use Rattle.storages.specs.Placement.{code_of}
 use Rattle.storages.specs.Room.{room, within, touches}
 use Rattle.units.specs.Sets.{any}
-use Rattle.maps.specs.declared.Found.TheVariants.{At}
 use Rattle.places.specs.Memory.{Maps}
 use Rattle.places.specs.Place.{Given, Opened, no_opened, joined, Placed, State, join_slot, start}
 use Rattle.places.specs.Legal.{right_form, LegalBy, Legal, Inside, OffLow, MayShare, Pairs, Fine}
@@ -40,7 +39,7 @@ abbrev pub Disjoint : Room → Room → Type 0
 Disjoint r q = (sp : Space) (i k : ℕ) → T (within r sp i k) → T (within q sp i k) → ⊥
 
 pub record Member (y : Placed) (t : Opened) : Type 0 where
-  pub free : y.what.fixed ≡ Free
+  pub free : y.what.fixed ≡ None
   pub owners : y.what.owner ≡ t.slot.owner
   pub kinds : y.what.kind ≡ t.slot.kind
   pub lengths : y.what.len ≡ t.slot.len
@@ -98,7 +97,7 @@ module _ (g : Given) (a f w : ℕ) (s : Storage) (x : State) (h : Keeps g a f w 
   after = set x.slots k (joined s.id here)
 
   abbrev new : Placed
-  new = record { what = s; spot = here.slot.placement; slot = At k }
+  new = record { what = s; spot = here.slot.placement; slot = Some k }
 
   -- The storage takes the slot's room, since it has the slot's length.
   same_room : (P : Room → Type 0) → P (slot_room here) → P (room_of new)

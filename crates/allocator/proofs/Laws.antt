@@ -1,5 +1,6 @@
 -- What is promised of a placing: of two storages that touch a common bit, and of one at its place. Every state of placing keeps these promises
 -- (Keeping.antt, Taking.antt), and each step adds its storage at the end, so they hold of the result, storage by storage.
+use Rattle.std.specs.Prelude.{Option, Some, None, Result, Ok, Err}
 use mathlib.Core.Path.{◌≡◌, sym, ap, ◌∙◌, subst}
 use mathlib.Core.Logic.{◌⊎◌, inl, inr}
 use mathlib.Core.Bool.{Bool, true, false, not}
@@ -12,22 +13,19 @@ use lib.ListN.{length, get_or, length-map, get_or-map}
 use lib.Seq.{append_snoc}
 use Rattle.fields.specs.Pick.{pick, ◌and◌, ◌or◌, All}
 use Rattle.storages.specs.declared.Placement.{Placement}
-use Rattle.storages.specs.declared.Fixed.{Fixed}
-use Rattle.storages.specs.declared.Fixed.TheVariants as fixed
 use Rattle.storages.specs.declared.Storage.{Storage}
 use Rattle.storages.specs.declared.Space.{Space}
 use Rattle.storages.specs.declared.Space.TheVariants.{App}
 use Rattle.storages.specs.Placement.{code_of}
 use Rattle.storages.specs.Storage.{a_byte, a_carry, is_bit, bit_code, bytes_code, kind_matches}
 use Rattle.storages.specs.Room.{room, touches}
-use Rattle.places.specs.declared.choose.Chosen.{Chosen}
-use Rattle.places.specs.declared.choose.Chosen.TheVariants.{Spot, Refused}
 use Rattle.places.specs.Place.{Given, Placed, State, Outcome, done, refused, take_room, step, and_then, place_from, start, place}
 use Rattle.places.specs.Legal.{right_form, LegalBy, Legal, Inside, FixedSmall, Sharing, MayShare, Pairs, Fine}
 use Rattle.places.proofs.Tests.{or_cases, or_l, or_r, and_r, all_at, pairs_at}
 use Rattle.turns.proofs.Turns.{After, step_cases}
 use Rattle.allocator.proofs.Keeping.{Keeps, start_keeps}
 use Rattle.allocator.proofs.Taking.{place_keeps}
+use Rattle.records.specs.declared.Refusal.{Refusal}
 
 abbrev pub storage_of : Placed → Storage
 storage_of y = y.what
@@ -43,9 +41,9 @@ pub record Sound (g : Given) (a f w : ℕ) (ss : List Storage) (x : State) : Typ
 step_whole : (g : Given) (s : Storage) (x : State) → After (λ y. map storage_of y.placed ≡ map storage_of x.placed ++ (s ∷ [])) (step g s x)
 step_whole g s x = step_cases (λ y. map storage_of y.placed ≡ map storage_of x.placed ++ (s ∷ [])) g s x taken (λ k. map-append storage_of x.placed _)
   where
-    taken : (c : Chosen) → After (λ y. map storage_of y.placed ≡ map storage_of x.placed ++ (s ∷ [])) (take_room s x c)
-    taken (Refused r) = tt
-    taken (Spot p) = map-append storage_of x.placed _
+    taken : (c : Result Placement Refusal) → After (λ y. map storage_of y.placed ≡ map storage_of x.placed ++ (s ∷ [])) (take_room s x c)
+    taken (Err r) = tt
+    taken (Ok p) = map-append storage_of x.placed _
 
 place_whole : (g : Given) (ss : List Storage) (x : State) → After (λ y. map storage_of y.placed ≡ map storage_of x.placed ++ ss) (place_from g ss x)
 unfolding place_from
@@ -158,6 +156,6 @@ form_matches kind n c = go (is_bit kind) (eqb kind a_byte)
 pub kinds_match : (s : Storage) (p : Placement) → Legal s p → T (kind_matches s.kind s.len (code_of p))
 kinds_match s p = go s.fixed
   where
-    go : (x : Fixed) → LegalBy s p x → T (kind_matches s.kind s.len (code_of p))
-    go fixed.Free h = form_matches s.kind s.len (code_of p) h.1
-    go (fixed.At q) h = h.1
+    go : (x : Option Placement) → LegalBy s p x → T (kind_matches s.kind s.len (code_of p))
+    go None h = form_matches s.kind s.len (code_of p) h.1
+    go (Some q) h = h.1

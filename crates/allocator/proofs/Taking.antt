@@ -1,5 +1,6 @@
 -- A storage that takes room of its own keeps what every state keeps, and so does a step, and placing. The chosen room is clear and the maps cover all that is
 -- placed, so the newcomer shares no bit with anything; and what it takes is covered afterwards.
+use Rattle.std.specs.Prelude.{Option, Some, None, Result, Ok, Err}
 use mathlib.Core.Path.{◌≡◌, refl, sym, ◌∙◌, subst}
 use mathlib.Core.Bool.{Bool, true, false}
 use mathlib.Core.List.{List, [], ◌∷◌, ◌++◌}
@@ -18,11 +19,7 @@ use Rattle.storages.specs.declared.Room.{Room}
 use Rattle.storages.specs.Placement.{code_of}
 use Rattle.storages.specs.Storage.{tries}
 use Rattle.storages.specs.Room.{room, touches}
-use Rattle.maps.specs.declared.Found.{Found}
-use Rattle.maps.specs.declared.Found.TheVariants.{Nothing, At}
 use Rattle.slots.specs.Slots.{opened}
-use Rattle.places.specs.declared.choose.Chosen.{Chosen}
-use Rattle.places.specs.declared.choose.Chosen.TheVariants.{Spot, Refused}
 use Rattle.places.specs.Memory.{Maps, reserve}
 use Rattle.places.specs.Place.{Given, Opened, no_opened, slot_for, choose, Placed, State, placed_at, take_room, step_by, step, place_from}
 use Rattle.places.specs.Legal.{right_form, LegalBy, Inside, OffLow, FixedSmall, MayShare, Pairs, Fine}
@@ -32,8 +29,9 @@ use Rattle.turns.proofs.Joining.{slot_at, SlotFor, slot_for_lem, Tries, tries_ou
 use Rattle.turns.proofs.Turns.{After, steps_keep}
 use Rattle.places.proofs.Choosing.{Good, Sits, choose_sits}
 use Rattle.allocator.proofs.Keeping.{room_of, slot_room, Covers, Disjoint, Member, Known, KnownIn, SlotFine, Keeps, join_keeps}
+use Rattle.records.specs.declared.Refusal.{Refusal}
 
-module _ (g : Given) (a f w : ℕ) (s : Storage) (x : State) (h : Keeps g a f w x) (p : Placement) (num : Found) (c : Sits g s x.maps s.fixed p) where
+module _ (g : Given) (a f w : ℕ) (s : Storage) (x : State) (h : Keeps g a f w x) (p : Placement) (num : Option ℕ) (c : Sits g s x.maps s.fixed p) where
   abbrev mine : Room
   mine = room s.len p
 
@@ -165,21 +163,21 @@ pub step_keeps : (g : Given) (a f w : ℕ) (s : Storage) (x : State) → g.hi �
 unfolding step pick
 step_keeps g a f w s x l b h = by (slot_for g s x.slots) (slot_for_lem g s x.slots)
   where
-    takes : (r : Chosen) → Good (Sits g s x.maps s.fixed) r → After (Keeps g a f w) (take_room s x r)
-    takes (Refused r) c = tt
-    takes (Spot p) c = go (tries s) refl
+    takes : (r : Result Placement Refusal) → Good (Sits g s x.maps s.fixed) r → After (Keeps g a f w) (take_room s x r)
+    takes (Err r) c = tt
+    takes (Ok p) c = go (tries s) refl
       where
         own : Opened
         own = record { slot = opened s p; members = s.id ∷ [] }
 
         go : (t : Bool) → tries s ≡ t
-            → Keeps g a f w (record { maps = reserve (room s.len p) x.maps; slots = pick t (x.slots ++ (own ∷ [])) x.slots; placed = placed_at s p (pick t (At (length x.slots)) Nothing) x.placed })
-        go true e = opened_keeps g a f w s x h p (At (length x.slots)) c (tries_out s (T_yes e))
-        go false e = single_keeps g a f w s x h p Nothing c
+            → Keeps g a f w (record { maps = reserve (room s.len p) x.maps; slots = pick t (x.slots ++ (own ∷ [])) x.slots; placed = placed_at s p (pick t (Some (length x.slots)) None) x.placed })
+        go true e = opened_keeps g a f w s x h p (Some (length x.slots)) c (tries_out s (T_yes e))
+        go false e = single_keeps g a f w s x h p None c
 
-    by : (r : Found) → SlotFor g s x.slots r → After (Keeps g a f w) (step_by g s x r)
-    by (At k) q = join_keeps g a f w s x h k q.1 (tries_out s q.0) (fits_out g s (slot_at x.slots k) q.2)
-    by Nothing q = takes (choose g s x.maps) (choose_sits g s x.maps (omega (arith, h.app_size)) b)
+    by : (r : Option ℕ) → SlotFor g s x.slots r → After (Keeps g a f w) (step_by g s x r)
+    by (Some k) q = join_keeps g a f w s x h k q.1 (tries_out s q.0) (fits_out g s (slot_at x.slots k) q.2)
+    by None q = takes (choose g s x.maps) (choose_sits g s x.maps (omega (arith, h.app_size)) b)
 
 pub place_keeps : (g : Given) (a f w : ℕ) (ss : List Storage) (x : State) → g.hi ≤ a → All (λ s. FixedSmall s.len s.fixed) ss → Keeps g a f w x → After (Keeps g a f w) (place_from g ss x)
 place_keeps g a f w ss x l b h = steps_keep (Keeps g a f w) (λ s. FixedSmall s.len s.fixed) g (λ s y. step_keeps g a f w s y l) ss b x h

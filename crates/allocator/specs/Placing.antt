@@ -1,6 +1,6 @@
 -- Document 01, "What moves" (place all) and "Refusal numbers" (buffers): the public operation place as one outcome, the answer and the lent words and bytes
 -- for every input.
-use Rattle.std.specs.Prelude.{◌≡◌, List, [], map, ℕ, ◌*◌, ltb, length}
+use Rattle.std.specs.Prelude.{◌≡◌, List, [], map, ℕ, ◌*◌, ltb, length, Result, Ok, Err}
 use Rattle.fields.specs.Pick.{pick}
 use Rattle.fields.specs.Edition.{Edition, one}
 use Rattle.records.specs.Check.{check}
@@ -9,13 +9,12 @@ use Rattle.records.specs.Program.{Program, program}
 use Rattle.records.specs.declared.Refusal.TheVariants.{Short}
 use Rattle.storages.specs.Storage.{stored}
 use Rattle.liveness.specs.Lives.{needed}
-use Rattle.graph.specs.declared.Graphed.{Graphed}
-use Rattle.graph.specs.declared.Graphed.TheVariants as graphed
 use Rattle.graph.specs.Graph.{interferes, copied}
 use Rattle.graph.specs.Graphs as G
 use Rattle.allocator.specs.declared.Placing.{Placing}
 use Rattle.allocator.specs.declared.Placing.TheVariants.{Done, Refused}
 use Rattle.places.specs.Place.{Given, Outcome, done, refused, place, records_of}
+use Rattle.records.specs.declared.Refusal.{Refusal}
 
 -- What the analysis gives to placing. Bits are looked for in all of application RAM.
 abbrev pub given : Edition → Program → Given
@@ -60,10 +59,10 @@ placed_by ed o units live graph copies result n (refused r) =
     }
 
 -- What the analysis refuses stays refused, with its buffers as it leaves them.
-abbrev pub placed_after : Edition → List ℕ → G.Outcome → List ℕ → List ℕ → List ℕ → List ℕ → List ℕ → Graphed → Lent
-placed_after ed f o units live graph copies result (graphed.Refused r) =
+abbrev pub placed_after : Edition → List ℕ → G.Outcome → List ℕ → List ℕ → List ℕ → List ℕ → List ℕ → Result ℕ Refusal → Lent
+placed_after ed f o units live graph copies result (Err r) =
     record { answer = Refused r; units = o.units; live = o.live; graph = o.graph; copies = o.copies; result = result }
-placed_after ed f o units live graph copies result (graphed.Passes n) = placed_by ed o units live graph copies result n (placing ed (program ed f))
+placed_after ed f o units live graph copies result (Ok n) = placed_by ed o units live graph copies result n (placing ed (program ed f))
 
 abbrev pub placed_from : Edition → List ℕ → G.Outcome → List ℕ → List ℕ → List ℕ → List ℕ → List ℕ → Lent
 placed_from ed f o units live graph copies result = placed_after ed f o units live graph copies result o.answer
@@ -87,10 +86,10 @@ PlacesIn f result r units' live' graph' copies' result' =
     ≡ placed_from one f (G.graphed_by one f [] [] [] [] (check one f)) [] [] [] [] result
 
 abbrev pub Analysed : List ℕ → List ℕ → List ℕ → List ℕ → List ℕ → ℕ → Type 0
-Analysed f units live graph copies n = G.GraphsIn f (graphed.Passes n) units live graph copies
+Analysed f units live graph copies n = G.GraphsIn f (Ok n) units live graph copies
 
 abbrev pub PlacesOn : List ℕ → List ℕ → List ℕ → List ℕ → List ℕ → List ℕ → ℕ → Placing → List ℕ → List ℕ → List ℕ → List ℕ → List ℕ → Type 0
 PlacesOn f units live graph copies result n r units' live' graph' copies' result' =
     record { answer = r; units = units'; live = live'; graph = graph'; copies = copies'; result = result' }
-    ≡ placed_by one (record { answer = graphed.Passes n; units = units; live = live; graph = graph; copies = copies }) [] [] [] [] result n
+    ≡ placed_by one (record { answer = Ok n; units = units; live = live; graph = graph; copies = copies }) [] [] [] [] result n
     (placing one (program one f))

@@ -34,7 +34,7 @@ pub fn place_all(
     kin: &mut [u16],
     numbers: &mut [u16],
     out: &mut [u8],
-) -> Allocated
+) -> Result<Allocated, Refusal>
     requires { (7 ≤ length file.now) × Fit file.now × (length graph.now ≡ 1024) × (length copies.now ≡ 1024) × (length app.old ≤ 256) × (length work.old ≤ 512)
         × (length ids.old ≡ 256) × (kin.old ≡ replicate 512 0) × (length numbers.old ≡ 256) × (out.old ≡ laid 2048 [] []) }
     ensures { (g : Given) → Tells g graph.now copies.now → g.lo ≡ 0 → g.hi ≡ length app.old
@@ -52,14 +52,14 @@ pub fn place_all(
         match place_one(
             list, n, s, graph, copies, app, work, floor, ids, kin, numbers, out, i,
         ) {
-            Verdict::Placed => {}
-            Verdict::Opened(p) => {
+            Ok(None) => {}
+            Ok(Some(p)) => {
                 let k = n / 16;
                 let page = list[k];
                 list[k] = put_page(page, n % 16, slot_of(s, p));
                 n += 1;
             }
-            Verdict::Refused(r) => return Allocated::Refused(r),
+            Err(r) => return Err(r),
         }
         at += 16;
         i += 1;
@@ -71,7 +71,7 @@ pub fn place_all(
 }
 
 // The placing of an accepted file, whose graph and copies stand in their rows. The application bytes below F are taken from the start.
-pub fn allocate(file: &[u8], graph: &[u64], copies: &[u64], out: &mut [u8]) -> Allocated
+pub fn allocate(file: &[u8], graph: &[u64], copies: &[u64], out: &mut [u8]) -> Result<Allocated, Refusal>
     requires { (7 ≤ length file.now) × (header_fits (u16_at file.now 1) (u16_at file.now 3) (u16_at file.now 5) ≡ true) × Fit file.now
         × (length graph.now ≡ 1024) × (length copies.now ≡ 1024) × (out.old ≡ laid 2048 [] []) }
     ensures { (g : Given) → Tells g graph.now copies.now → g.lo ≡ 0 → g.hi ≡ u16_at file.now 1

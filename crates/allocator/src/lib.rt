@@ -44,7 +44,7 @@ fn place_on(
     copies: &mut [u64],
     out: &mut [u8],
     passes: usize,
-) -> Placing
+) -> Result<Placing, Refusal>
     requires { (length units.old ≡ 512) × (length live.old ≡ 2048) × (length graph.old ≡ 1024) × (length copies.old ≡ 1024) × (length out.old ≡ 2048)
         × Analysed file.now units.old live.old graph.old copies.old passes }
     ensures { PlacesOn file.now units.old live.old graph.old copies.old out.old passes result
@@ -60,12 +60,12 @@ fn place_on(
                 passes,
             }
         }
-        Allocated::Refused(r) => {
+        Err(r) => {
             records::clear(units);
             rows::clear(live, 0, 2048);
             rows::clear(graph, 0, 1024);
             rows::clear(copies, 0, 1024);
-            Placing::Refused(r)
+            Err(r)
         }
     }
 }
@@ -78,13 +78,13 @@ fn place_in(
     graph: &mut [u64],
     copies: &mut [u64],
     out: &mut [u8],
-) -> Placing
+) -> Result<Placing, Refusal>
     requires { (length units.old ≡ 512) × (length live.old ≡ 2048) × (length graph.old ≡ 1024) × (length copies.old ≡ 1024) × (length out.old ≡ 2048) }
     ensures { PlacesIn file.now out.old result units.new live.new graph.new copies.new out.new }
 {
     match graph::graph(file, units, live, graph, copies) {
-        Graphed::Refused(r) => Placing::Refused(r),
-        Graphed::Passes(n) => place_on(file, units, live, graph, copies, out, n),
+        Err(r) => Err(r),
+        Ok(n) => place_on(file, units, live, graph, copies, out, n),
     }
 }
 
@@ -96,24 +96,24 @@ pub fn place(
     graph: &mut [u64],
     copies: &mut [u64],
     out: &mut [u8],
-) -> Placing
+) -> Result<Placing, Refusal>
     ensures { Places file.now units.old live.old graph.old copies.old out.old result
         units.new live.new graph.new copies.new out.new }
 {
     if units.len() < 512 {
-        return Placing::Refused(Refusal::Short);
+        return Err(Refusal::Short);
     }
     if live.len() < 2048 {
-        return Placing::Refused(Refusal::Short);
+        return Err(Refusal::Short);
     }
     if graph.len() < 1024 {
-        return Placing::Refused(Refusal::Short);
+        return Err(Refusal::Short);
     }
     if copies.len() < 1024 {
-        return Placing::Refused(Refusal::Short);
+        return Err(Refusal::Short);
     }
     if out.len() < 2048 {
-        return Placing::Refused(Refusal::Short);
+        return Err(Refusal::Short);
     }
     place_in(
         file,

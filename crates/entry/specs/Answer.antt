@@ -1,50 +1,40 @@
 -- The answers of the public operations as one number.
-use Rattle.std.specs.Prelude.{◌≡◌, ℕ, ◌+◌, ◌*◌, ◌%◌, List}
+use Rattle.std.specs.Prelude.{◌≡◌, ℕ, ◌+◌, ◌*◌, ◌%◌, List, Result, Ok, Err, Unit, tt, true, false, Bool}
 use Rattle.fields.specs.Edition.{one}
 use Rattle.records.specs.Refusal.{number_of, value_of}
 use Rattle.records.specs.Outcome.{outcome}
 use Rattle.records.specs.declared.Refusal.{Refusal}
-use Rattle.records.specs.declared.Checked.{Checked}
-use Rattle.records.specs.declared.Checked.TheVariants as checked
 use Rattle.units.specs.Ask.{Query, asked, told}
 use Rattle.allocator.specs.Placing as places
 use Rattle.allocator.specs.declared.Placing.{Placing}
 use Rattle.allocator.specs.declared.Placing.TheVariants as placing
 use Rattle.graph.specs.Graphs as graphs
-use Rattle.graph.specs.declared.Graphed.{Graphed}
-use Rattle.graph.specs.declared.Graphed.TheVariants as graphed
 use Rattle.liveness.specs.Lives as lives
-use Rattle.liveness.specs.declared.Lived.{Lived}
-use Rattle.liveness.specs.declared.Lived.TheVariants as lived
-use Rattle.units.specs.declared.Answered.{Answered}
-use Rattle.units.specs.declared.Answered.TheVariants as answered
-use Rattle.units.specs.declared.Effect.{Effect}
-use Rattle.units.specs.declared.Effect.TheVariants as effects
 
 -- The low half is a refusal's value, the high half its number. All values of these operations are below 2^32 for a place asked that is.
 abbrev pub packed : Refusal → ℕ
 packed r = number_of r * 4294967296 + value_of r % 4294967296
 
-abbrev pub count_of : Checked → ℕ
-count_of (checked.Units n) = n % 4294967296
-count_of (checked.Refused r) = packed r
+abbrev pub count_of : Result ℕ Refusal → ℕ
+count_of (Ok n) = n % 4294967296
+count_of (Err r) = packed r
 
-abbrev pub filled_of : Answered → ℕ
-filled_of answered.Done = 0
-filled_of (answered.Refused r) = packed r
+abbrev pub filled_of : Result (Unit {0}) Refusal → ℕ
+filled_of (Ok tt) = 0
+filled_of (Err r) = packed r
 
-abbrev pub effect_of : Effect → ℕ
-effect_of effects.Yes = 1
-effect_of effects.No = 0
-effect_of (effects.Refused r) = packed r
+abbrev pub effect_of : Result Bool Refusal → ℕ
+effect_of (Ok true) = 1
+effect_of (Ok false) = 0
+effect_of (Err r) = packed r
 
-abbrev pub passes_of : Lived → ℕ
-passes_of (lived.Passes n) = n % 4294967296
-passes_of (lived.Refused r) = packed r
+abbrev pub passes_of : Result ℕ Refusal → ℕ
+passes_of (Ok n) = n % 4294967296
+passes_of (Err r) = packed r
 
-abbrev pub summed_of : Graphed → ℕ
-summed_of (graphed.Passes n) = n % 4294967296
-summed_of (graphed.Refused r) = packed r
+abbrev pub summed_of : Result ℕ Refusal → ℕ
+summed_of (Ok n) = n % 4294967296
+summed_of (Err r) = packed r
 
 -- From the low end: 9 bits for the storages placed, 9 for the slots opened and 14 for the passes, each of which an accepted file keeps below its limit.
 abbrev pub placed_of : Placing → ℕ

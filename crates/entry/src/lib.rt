@@ -24,18 +24,18 @@ pub fn check_file(file: &[u8], units: &mut [u32]) -> u64
     ensures { Answers file.now units.old result units.new }
 {
     match records::check(file, units) {
-        Checked::Units(n) => n as u64 % 4294967296,
-        Checked::Refused(r) => pack(r),
+        Ok(n) => n as u64 % 4294967296,
+        Err(r) => pack(r),
     }
 }
 
 // 0 where a query filled its row.
-fn filled(a: Answered) -> u64
+fn filled(a: Result<(), Refusal>) -> u64
     ensures { result ≡ filled_of a }
 {
     match a {
-        Answered::Done => 0,
-        Answered::Refused(r) => pack(r),
+        Ok(()) => 0,
+        Err(r) => pack(r),
     }
 }
 
@@ -72,9 +72,9 @@ pub fn effect_at(file: &[u8], place: usize, units: &mut [u32]) -> u64
     ensures { Says file.now place units.old result units.new }
 {
     match units::observable_effect(file, place, units) {
-        Effect::Yes => 1,
-        Effect::No => 0,
-        Effect::Refused(r) => pack(r),
+        Ok(true) => 1,
+        Ok(false) => 0,
+        Err(r) => pack(r),
     }
 }
 
@@ -83,8 +83,8 @@ pub fn live_of(file: &[u8], number: usize, units: &mut [u32], live: &mut [u64]) 
     ensures { Settles file.now number units.old live.old result units.new live.new }
 {
     match liveness::live(file, number, units, live) {
-        Lived::Passes(n) => n as u64 % 4294967296,
-        Lived::Refused(r) => pack(r),
+        Ok(n) => n as u64 % 4294967296,
+        Err(r) => pack(r),
     }
 }
 
@@ -100,8 +100,8 @@ pub fn graph_of(
         graph.new copies.new }
 {
     match graph::graph(file, units, live, graph, copies) {
-        Graphed::Passes(n) => n as u64 % 4294967296,
-        Graphed::Refused(r) => pack(r),
+        Ok(n) => n as u64 % 4294967296,
+        Err(r) => pack(r),
     }
 }
 
@@ -124,6 +124,6 @@ pub fn place_file(
             slots,
             passes,
         } => passes as u64 % 16384 * 262144 + slots as u64 % 512 * 512 + placed as u64 % 512,
-        Placing::Refused(r) => pack(r),
+        Err(r) => pack(r),
     }
 }

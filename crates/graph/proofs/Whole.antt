@@ -1,5 +1,6 @@
 -- Once all functions are noted the buffers hold the whole program: the stops of a program are its steps, in order, so that what was noted of them is what
 -- the graph, the copies and the addressed storages are defined by.
+use Rattle.std.specs.Prelude.{Result}
 use mathlib.Core.Path.{◌≡◌, refl, sym, ap, ap₂, ◌∙◌, subst}
 use mathlib.Core.List.{List, [], ◌∷◌, ◌++◌, map-append}
 use Prim.Native.Nat.{ℕ, ◌≤◌}
@@ -15,13 +16,13 @@ use Rattle.liveness.specs.Settle.{settled_by}
 use Rattle.liveness.proofs.SettleLaws.{settled_outs}
 use Rattle.graph.specs.Graph.{uses_of, all_uses, copied}
 use Rattle.graph.specs.Graphs.{relation_rows, Graphs, Outcome}
-use Rattle.graph.specs.declared.Graphed.{Graphed}
 use Rattle.graph.specs.Gathered.{Stop, stops_in, stops_from, stops_of, stops, Paired, Addressed}
 use Rattle.graph.specs.Walking.{uses_at, Noted, Granted, AllTaken, Counted, Whole}
 use Rattle.meetings.specs.Meeting.{unit_rows}
 use Rattle.meetings.specs.Closing.{closed, Above, held_by}
 use Rattle.graph.proofs.Closing.{graph_is, copies_is}
 use Rattle.storages.proofs.Declared.{declared_is}
+use Rattle.records.specs.declared.Refusal.{Refusal}
 
 uses_in : (ss : List Use) (out : List ℕ) → uses_at (stops_in ss out) ≡ ss
 unfolding stops_in
@@ -58,7 +59,7 @@ module _ (f us meets copies addressed : List ℕ) (n : Noted us (stops one (prog
   copies_all = copies_is (program one f) paired_all
 
 -- Any two outcomes that the contract of graph permits coincide.
-pub graphs_decide : (f before live graph copies : List ℕ) (r r' : Graphed) (u u' l l' g g' c c' : List ℕ) → Graphs f before live graph copies r u l g c → Graphs f before live graph copies r' u' l' g' c'
+pub graphs_decide : (f before live graph copies : List ℕ) (r r' : Result ℕ Refusal) (u u' l l' g g' c c' : List ℕ) → Graphs f before live graph copies r u l g c → Graphs f before live graph copies r' u' l' g' c'
     → (r ≡ r') × (u ≡ u') × (l ≡ l') × (g ≡ g') × (c ≡ c')
 graphs_decide f before live graph copies r r' u u' l l' g g' c c' p q =
     let e : ◌≡◌ {A = Outcome} (record { answer = r; units = u; live = l; graph = g; copies = c }) (record { answer = r'; units = u'; live = l'; graph = g'; copies = c' }) = p ∙ sym q in

@@ -1,6 +1,6 @@
 -- Document 01, "What moves" (graph and copies) and "Refusal numbers" (buffers): the public operation graph as one outcome, the answer and the lent words
 -- for every input.
-use Rattle.std.specs.Prelude.{◌≡◌, Bool, List, [], ◌∷◌, ◌++◌, ℕ, zero, suc, ◌*◌, ltb, length, drop}
+use Rattle.std.specs.Prelude.{◌≡◌, Bool, List, [], ◌∷◌, ◌++◌, ℕ, zero, suc, ◌*◌, ltb, length, drop, Result, Ok, Err}
 use Rattle.rows.specs.Row.{pack}
 use Rattle.fields.specs.Pick.{pick, ◌or◌}
 use Rattle.fields.specs.Edition.{Edition, one}
@@ -11,8 +11,7 @@ use Rattle.records.specs.declared.Refusal.TheVariants.{Short}
 use Rattle.liveness.specs.Settle.{liveness}
 use Rattle.liveness.specs.Lives.{live_words, needed}
 use Rattle.graph.specs.Graph.{interferes, copied, passes}
-use Rattle.graph.specs.declared.Graphed.{Graphed}
-use Rattle.graph.specs.declared.Graphed.TheVariants.{Passes, Refused}
+use Rattle.records.specs.declared.Refusal.{Refusal}
 
 -- The rows of a relation between storages, of ids k to k + n - 1.
 unfoldable pub relation_rows : Edition → (ℕ → ℕ → Bool) → ℕ → ℕ → List ℕ
@@ -33,7 +32,7 @@ last_live ed us p (f ∷ []) = live_words ed us (liveness ed p f).sets
 last_live ed us p (f ∷ g ∷ fs) = last_live ed us p (g ∷ fs)
 
 pub record Outcome : Type 0 where
-  pub answer : Graphed
+  pub answer : Result ℕ Refusal
   pub units : List ℕ
   pub live : List ℕ
   pub graph : List ℕ
@@ -42,7 +41,7 @@ pub record Outcome : Type 0 where
 abbrev pub graphed_by : Edition → List ℕ → List ℕ → List ℕ → List ℕ → List ℕ → Answer → Outcome
 graphed_by ed f before live graph copies (units us) =
     record {
-      answer = Passes (passes ed (program ed f));
+      answer = Ok (passes ed (program ed f));
       units = laid ed.units us before;
       live = last_live ed us (program ed f) (program ed f).functions ++ drop (needed ed) live;
       graph = relation_rows ed (interferes ed (program ed f)) 0 (ids ed) ++ drop (pair_words ed) graph;
@@ -50,7 +49,7 @@ graphed_by ed f before live graph copies (units us) =
     }
 graphed_by ed f before live graph copies (refusal x) =
     record {
-      answer = Refused x;
+      answer = Err x;
       units = laid ed.units [] before;
       live = laid (needed ed) [] live;
       graph = laid (pair_words ed) [] graph;
@@ -62,15 +61,15 @@ unfoldable pub graphed : Edition → List ℕ → List ℕ → List ℕ → List
 graphed ed f before live graph copies =
     pick
     (ltb (length before) ed.units or (ltb (length live) (needed ed) or (ltb (length graph) (pair_words ed) or ltb (length copies) (pair_words ed))))
-    (record { answer = Refused Short; units = before; live = live; graph = graph; copies = copies })
+    (record { answer = Err Short; units = before; live = live; graph = graph; copies = copies })
     (graphed_by ed f before live graph copies (check ed f))
 
 -- The contract of graph.
-abbrev pub Graphs : List ℕ → List ℕ → List ℕ → List ℕ → List ℕ → Graphed → List ℕ → List ℕ → List ℕ → List ℕ → Type 0
+abbrev pub Graphs : List ℕ → List ℕ → List ℕ → List ℕ → List ℕ → Result ℕ Refusal → List ℕ → List ℕ → List ℕ → List ℕ → Type 0
 Graphs f before live graph copies r units' live' graph' copies' =
     record { answer = r; units = units'; live = live'; graph = graph'; copies = copies' } ≡ graphed one f before live graph copies
 
 -- The same of buffers of just the needed words.
-abbrev pub GraphsIn : List ℕ → Graphed → List ℕ → List ℕ → List ℕ → List ℕ → Type 0
+abbrev pub GraphsIn : List ℕ → Result ℕ Refusal → List ℕ → List ℕ → List ℕ → List ℕ → Type 0
 GraphsIn f r units' live' graph' copies' =
     record { answer = r; units = units'; live = live'; graph = graph'; copies = copies' } ≡ graphed_by one f [] [] [] [] (check one f)

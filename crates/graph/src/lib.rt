@@ -23,7 +23,7 @@ fn graph_in(
     live: &mut [u64],
     graph: &mut [u64],
     copies: &mut [u64],
-) -> Graphed
+) -> Result<usize, Refusal>
     requires { (length units.old ≡ 512) × (length live.old ≡ 2048) × (length graph.old ≡ 1024) × (length copies.old ≡ 1024) }
     ensures { GraphsIn file.now result units.new live.new graph.new copies.new }
 {
@@ -33,8 +33,8 @@ fn graph_in(
     let mut numbers = [0u16; 2341];
     let mut table = [0u16; 512];
     match number_units(file, units, &mut numbers, &mut table) {
-        Checked::Refused(r) => Graphed::Refused(r),
-        Checked::Units(n) => Graphed::Passes(walk::graph_of(
+        Err(r) => Err(r),
+        Ok(n) => Ok(walk::graph_of(
             file, &numbers, &table, units, n, live, graph, copies,
         )),
     }
@@ -48,21 +48,21 @@ pub fn graph(
     live: &mut [u64],
     graph: &mut [u64],
     copies: &mut [u64],
-) -> Graphed
+) -> Result<usize, Refusal>
     ensures { Graphs file.now units.old live.old graph.old copies.old result units.new live.new
         graph.new copies.new }
 {
     if units.len() < 512 {
-        return Graphed::Refused(Refusal::Short);
+        return Err(Refusal::Short);
     }
     if live.len() < 2048 {
-        return Graphed::Refused(Refusal::Short);
+        return Err(Refusal::Short);
     }
     if graph.len() < 1024 {
-        return Graphed::Refused(Refusal::Short);
+        return Err(Refusal::Short);
     }
     if copies.len() < 1024 {
-        return Graphed::Refused(Refusal::Short);
+        return Err(Refusal::Short);
     }
     graph_in(
         file,

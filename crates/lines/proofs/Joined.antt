@@ -1,5 +1,6 @@
 -- Texts that follow one another on the page.
 -- Two texts, one behind the other, are one text; a text may be exchanged for an equal one; a shape's name is chosen by its tests.
+use Rattle.std.specs.Prelude.{Result, Err}
 use mathlib.Core.List.{List, [], ◌++◌, append_assoc, append-nil}
 use mathlib.Core.Path.{◌≡◌, ap, sym, subst, ◌∙◌}
 use Prim.Native.Nat.{ℕ, ◌+◌, ◌/◌, ◌%◌, min}
@@ -8,8 +9,6 @@ use lib.ListN.{get_or}
 use borrow.Author.Tests.{eq-eqb, ne_eqb}
 use Rattle.lines.specs.Text.{Follows, space, newline, unit_word, units_word, refused_word, lane, bit, object, decimal, shape_text, unit_line, unit_lines, head_text, units_text, refusal_text, answer_text}
 use Rattle.records.specs.Refusal.{number_of, value_of}
-use Rattle.records.specs.declared.Checked.{Checked}
-use Rattle.records.specs.declared.Checked.TheVariants.{Refused}
 use Rattle.records.specs.declared.Refusal.{Refusal}
 
 pub joined : {before first second after last : List ℕ} → Follows before first after → Follows after second last → Follows before (first ++ second) last
@@ -52,8 +51,8 @@ refusal_parts r n v p q end value gap number word =
     joined (joined (joined (joined word (same_text (ap decimal p) number)) gap) (same_text (ap decimal q) value)) end
 
 -- A refusal's line is the whole text for that answer.
-pub refused_text_lem : {last : List ℕ} (checked : Checked) (r : Refusal) (units : List ℕ)
-    → checked ≡ Refused r → Follows [] (refusal_text r) last → last ≡ answer_text checked units
+pub refused_text_lem : {last : List ℕ} (checked : Result ℕ Refusal) (r : Refusal) (units : List ℕ)
+    → checked ≡ Err r → Follows [] (refusal_text r) last → last ≡ answer_text checked units
 refused_text_lem checked r units e line = rw e line.same
 
 -- The three parts of the first line, the last one first; no unit's line stands behind it yet.

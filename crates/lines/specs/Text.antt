@@ -1,9 +1,7 @@
 -- The first lines of a report, as lists of bytes: the text of a number, of a unit, of all units and of a refusal (docs/DECISIONS.md, "Programs").
-use Rattle.std.specs.Prelude.{ℕ, zero, suc, ◌/◌, ◌%◌, min, cond, ◌≡◌, List, [], ◌∷◌, ◌++◌, ltb, eqb, get_or}
+use Rattle.std.specs.Prelude.{ℕ, zero, suc, ◌/◌, ◌%◌, min, cond, ◌≡◌, List, [], ◌∷◌, ◌++◌, ltb, eqb, get_or, Result, Ok, Err}
 use Rattle.io.specs.Digits.{last_digits}
 use Rattle.records.specs.Refusal.{number_of, value_of}
-use Rattle.records.specs.declared.Checked.{Checked}
-use Rattle.records.specs.declared.Checked.TheVariants.{Units, Refused}
 use Rattle.records.specs.declared.Refusal.{Refusal}
 
 -- One text follows another: `after` is `before` with `text` behind it.
@@ -82,6 +80,6 @@ refusal_text r =
     ++ newline
 
 -- The whole text for an answer of `check` and the unit words that it left.
-abbrev pub answer_text : Checked → List ℕ → List ℕ
-answer_text (Units count) units = units_text count units
-answer_text (Refused r) units = refusal_text r
+abbrev pub answer_text : Result ℕ Refusal → List ℕ → List ℕ
+answer_text (Ok count) units = units_text count units
+answer_text (Err r) units = refusal_text r

@@ -8,14 +8,14 @@ use crate::text::{put, put_number, put_shape};
 use records::{Checked, Refusal};
 
 // Lays out what `check` answered, from the start of `page`, and answers where the text ends.
-pub fn put_answer(page: &mut [u8], units: &[u32; 512], checked: Checked) -> usize
+pub fn put_answer(page: &mut [u8], units: &[u32; 512], checked: Result<usize, Refusal>) -> usize
     requires { 65536 ≤ length page.old }
     ensures ends { IsPrefixLen result page.new }
     ensures text { take result page.new ≡ answer_text checked units.now }
 {
     match checked {
-        Checked::Units(count) => put_units(page, units, count),
-        Checked::Refused(refusal) => put_refusal(page, 0, refusal),
+        Ok(count) => put_units(page, units, count),
+        Err(refusal) => put_refusal(page, 0, refusal),
     }
 }
 

@@ -1,5 +1,6 @@
 -- The outcome of live, way by way: a number of no function, which a byte cannot be above 255; the live sets of a function; and a buffer that is lent in
 -- part keeps what lies past that part. Any two outcomes that the contract permits coincide.
+use Rattle.std.specs.Prelude.{Result, Ok, Err}
 use mathlib.Core.Path.{◌≡◌, refl, sym, ap, ◌∙◌}
 use mathlib.Core.Logic.{◌⊎◌, inl, inr}
 use mathlib.Core.Bool.{Bool, true, false}
@@ -21,8 +22,6 @@ use Rattle.records.specs.Outcome as R
 use Rattle.records.specs.Program.{Function, Rest, function_of, put, put_step, program}
 use Rattle.records.specs.declared.Refusal.{Refusal}
 use Rattle.records.specs.declared.Refusal.TheVariants.{Short, Absent}
-use Rattle.records.specs.declared.Checked.{Checked}
-use Rattle.records.specs.declared.Checked.TheVariants as checked
 use Rattle.fields.proofs.Front.{read_whole}
 use Rattle.fields.proofs.ByKind.{length_none, kind_header, kind_storage, kind_function, kind_abi, kind_block, kind_instruction, kind_operand, kind_terminator, kind_target, kind_end}
 use Rattle.records.proofs.Outcomes.{laid_rest}
@@ -34,8 +33,6 @@ use Rattle.liveness.specs.Settle.{liveness}
 use Rattle.liveness.specs.Walks.{Owned}
 use Rattle.liveness.specs.Lives.{Outcome, live_words, lived_by, lived_of, lived, LivesIn, Lives}
 use Rattle.units.specs.declared.cursor.Cursor.{Cursor}
-use Rattle.liveness.specs.declared.Lived.{Lived}
-use Rattle.liveness.specs.declared.Lived.TheVariants as lived'
 use Rattle.liveness.proofs.Onward.{from_past, from_by}
 
 -- Numbers of functions are bytes ---------------------------------------------------------------------------------------------------------------
@@ -109,7 +106,7 @@ module _ (f table : List ℕ) (number : ℕ) (own : Cursor) (o : Owned table num
 
 module _ (f table : List ℕ) (number : ℕ) (own : Cursor) (o : Owned table number own) (bytes : (i : ℕ) → get_or f i 0 < 256) (us found : List ℕ) (ready : Ready f us found table) where
   pub lived_absent : (n : ℕ) (words live : List ℕ) → own.at ≡ 65535 → words ≡ replicate n 0 → n ≡ 512 → live ≡ blank 2048
-      → record { answer = lived'.Refused (Absent number); units = words; live = live } ≡ lived_by one f number us [] [] (lookup (program one f).functions number)
+      → record { answer = Err (Absent number); units = words; live = live } ≡ lived_by one f number us [] [] (lookup (program one f).functions number)
   unfolding laid blank
   lived_absent n words live e c h l = rw (absent_there f table number own o bytes ready.index e, c, h, l)
 
@@ -117,31 +114,31 @@ module _ (f table : List ℕ) (number : ℕ) (own : Cursor) (o : Owned table num
       → ((us : List ℕ) (fn : Function) → Ready f us found table → StandsAt f own → Memᴰ fn (program one f).functions
       → fn.abis ≡ (from f own.at).abis → fn.blocks ≡ (from f own.at).blocks
       → (passes ≡ (liveness one (program one f) fn).passes) × (live ≡ live_words one us (liveness one (program one f) fn).sets))
-      → record { answer = lived'.Passes passes; units = words; live = live } ≡ lived_by one f number us [] [] (lookup (program one f).functions number)
+      → record { answer = Ok passes; units = words; live = live } ≡ lived_by one f number us [] [] (lookup (program one f).functions number)
   lived_passes passes words live n w call =
       let p = present_there f table number own o bytes ready.index n in
       let fn = function_from f number own.at in
       let m = lookup_mem (program one f).functions number fn p.0 in
       let r = call us fn ready p.1 m refl refl in
-      rw (p.0, w, r.0, r.1) (ap (λ (l : List ℕ). record { answer = lived'.Passes (liveness one (program one f) fn).passes; units = laid 512 us []; live = l }) (sym (append-nil (live_words one us (liveness one (program one f) fn).sets))))
+      rw (p.0, w, r.0, r.1) (ap (λ (l : List ℕ). record { answer = Ok (liveness one (program one f) fn).passes; units = laid 512 us []; live = l }) (sym (append-nil (live_words one us (liveness one (program one f) fn).sets))))
 
 -- a buffer of just the needed words
 pub blank_of : (live live' : List ℕ) → length live ≡ 2048 → live' ≡ W.put live 0 (replicate 2048 0) → live' ≡ blank 2048
 unfolding blank
 blank_of live live' l e = e ∙ L.put_whole live (replicate 2048 0) (l ∙ sym (length-replicate {A = ℕ} 2048 0))
 
-pub lived_refused : (f : List ℕ) (number : ℕ) (r : Checked) (words found table : List ℕ) → Numbers f r words found table → (x : Refusal) (live : List ℕ) → r ≡ checked.Refused x → live ≡ blank 2048
-    → LivesIn f number (lived'.Refused x) words live
+pub lived_refused : (f : List ℕ) (number : ℕ) (r : Result ℕ Refusal) (words found table : List ℕ) → Numbers f r words found table → (x : Refusal) (live : List ℕ) → r ≡ Err x → live ≡ blank 2048
+    → LivesIn f number (Err x) words live
 unfolding laid blank
 lived_refused f number r words found table h x live e l = go (check one f) h.0
   where
-    go : (a : Answer) → record { answer = r; words = words } ≡ outcome_by one [] a → record { answer = lived'.Refused x; units = words; live = live } ≡ lived_of one f number [] [] a
+    go : (a : Answer) → record { answer = r; words = words } ≡ outcome_by one [] a → record { answer = Err x; units = words; live = live } ≡ lived_of one f number [] [] a
     go (units us) q = let z : ◌≡◌ {A = ℕ} 0 1 = cc (ap (λ (o : R.Outcome). o.answer) q) in absurd (omega arith)
     go (refusal y) q =
         let i : x ≡ y = cc (ap (λ (o : R.Outcome). o.answer) q) in
         rw (i, ap (λ (o : R.Outcome). o.words) q, l)
 
-pub lived_done : (f : List ℕ) (number : ℕ) (words found table : List ℕ) → Accepted f number words found table → (answer : Lived) (words' live : List ℕ)
+pub lived_done : (f : List ℕ) (number : ℕ) (words found table : List ℕ) → Accepted f number words found table → (answer : Result ℕ Refusal) (words' live : List ℕ)
     → ((us : List ℕ) → Ready f us found table → words ≡ laid 512 us []
     → record { answer = answer; units = words'; live = live } ≡ lived_by one f number us [] [] (lookup (program one f).functions number))
     → LivesIn f number answer words' live
@@ -154,15 +151,15 @@ neither a b p q = rw p q
 -- Buffers as they are lent ---------------------------------------------------------------------------------------------------------------------
 
 module _ (f : List ℕ) (number : ℕ) (before live : List ℕ) where
-  pub lives_short_units : length before < 512 → Lives f number before live (lived'.Refused Short) before live
+  pub lives_short_units : length before < 512 → Lives f number before live (Err Short) before live
   unfolding lived pick
   lives_short_units l = rw (lt-ltb (length before) 512 l)
 
-  pub lives_short_live : 512 ≤ length before → length live < 2048 → Lives f number before live (lived'.Refused Short) before live
+  pub lives_short_live : 512 ≤ length before → length live < 2048 → Lives f number before live (Err Short) before live
   unfolding lived pick
   lives_short_live a l = rw (le-ltb (length before) 512 a, lt-ltb (length live) 2048 l)
 
-  pub lives_all : (answer : Lived) (words live' : List ℕ) → 512 ≤ length before → 2048 ≤ length live → LivesIn f number answer words live'
+  pub lives_all : (answer : Result ℕ Refusal) (words live' : List ℕ) → 512 ≤ length before → 2048 ≤ length live → LivesIn f number answer words live'
       → Lives f number before live answer (words ++ drop 512 before) (live' ++ drop 2048 live)
   unfolding lived
   lives_all answer words live' a b h =
@@ -172,7 +169,7 @@ module _ (f : List ℕ) (number : ℕ) (before live : List ℕ) where
           → record { answer = answer; units = words ++ drop 512 before; live = live' ++ drop 2048 live } ≡ lived_by one f number us before live k
       by (defined fn) us e =
           rw (ap (λ (o : Outcome). o.answer) e, ap (λ (o : Outcome). o.units) e, ap (λ (o : Outcome). o.live) e, laid_rest 512 us before)
-          (ap (λ (l : List ℕ). record { answer = lived'.Passes (liveness one (program one f) fn).passes; units = laid 512 us before; live = l ++ drop 2048 live }) (append-nil (live_words one us (liveness one (program one f) fn).sets)))
+          (ap (λ (l : List ℕ). record { answer = Ok (liveness one (program one f) fn).passes; units = laid 512 us before; live = l ++ drop 2048 live }) (append-nil (live_words one us (liveness one (program one f) fn).sets)))
       by missing us e =
           rw (ap (λ (o : Outcome). o.answer) e, ap (λ (o : Outcome). o.units) e, ap (λ (o : Outcome). o.live) e, laid_rest 512 [] before, laid_rest 2048 [] live)
 
@@ -182,7 +179,7 @@ module _ (f : List ℕ) (number : ℕ) (before live : List ℕ) where
       go (refusal x) e = rw (ap (λ (o : Outcome). o.answer) e, ap (λ (o : Outcome). o.units) e, ap (λ (o : Outcome). o.live) e, laid_rest 512 [] before, laid_rest 2048 [] live)
 
   -- Any two outcomes that the contract of live permits coincide.
-  pub lives_decide : (r r' : Lived) (words words' rows rows' : List ℕ) → Lives f number before live r words rows → Lives f number before live r' words' rows' → (r ≡ r') × (words ≡ words') × (rows ≡ rows')
+  pub lives_decide : (r r' : Result ℕ Refusal) (words words' rows rows' : List ℕ) → Lives f number before live r words rows → Lives f number before live r' words' rows' → (r ≡ r') × (words ≡ words') × (rows ≡ rows')
   lives_decide r r' words words' rows rows' p q =
       let e : ◌≡◌ {A = Outcome} (record { answer = r; units = words; live = rows }) (record { answer = r'; units = words'; live = rows' }) = p ∙ sym q in
       (ap (λ (o : Outcome). o.answer) e, ap (λ (o : Outcome). o.units) e, ap (λ (o : Outcome). o.live) e)

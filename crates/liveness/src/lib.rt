@@ -88,7 +88,7 @@ fn live_of(
     numbers: &[u16],
     table: &[u16],
     live: &mut [u64],
-) -> Lived
+) -> Result<usize, Refusal>
     requires { (length file.now ≤ 16384) × (2341 ≤ length numbers.now) × Sane table.now × (length units.old ≡ 512) × (live.old ≡ blank 2048) }
     ensures { (us : List ℕ) → Ready file.now us numbers.now table.now → units.old ≡ laid 512 us []
         → record { answer = result; units = units.new; live = live.new } ≡ lived_by one file.now number us [] [] (lookup (program one file.now).functions number) }
@@ -96,13 +96,13 @@ fn live_of(
     let own = own_of(table, number);
     if own.at == NONE {
         records::clear(units);
-        return Lived::Refused(Refusal::Absent(number));
+        return Err(Refusal::Absent(number));
     }
-    Lived::Passes(passes_of(file, numbers, table, own, live))
+    Ok(passes_of(file, numbers, table, own, live))
 }
 
 // The same of a file that is not checked yet.
-fn live_in(file: &[u8], number: usize, units: &mut [u32], live: &mut [u64]) -> Lived
+fn live_in(file: &[u8], number: usize, units: &mut [u32], live: &mut [u64]) -> Result<usize, Refusal>
     requires { (length units.old ≡ 512) × (length live.old ≡ 2048) }
     ensures { LivesIn file.now number result units.new live.new }
 {
@@ -110,20 +110,20 @@ fn live_in(file: &[u8], number: usize, units: &mut [u32], live: &mut [u64]) -> L
     let mut numbers = [0u16; 2341];
     let mut table = [0u16; 512];
     match number_units(file, units, &mut numbers, &mut table) {
-        Checked::Refused(r) => Lived::Refused(r),
-        Checked::Units(_) => live_of(file, number, units, &numbers, &table, live),
+        Err(r) => Err(r),
+        Ok(_) => live_of(file, number, units, &numbers, &table, live),
     }
 }
 
 // Live-in and live-out of every block of a function, as rows of units, and how many passes they took; `units` then holds the file's units by number.
-pub fn live(file: &[u8], number: usize, units: &mut [u32], live: &mut [u64]) -> Lived
+pub fn live(file: &[u8], number: usize, units: &mut [u32], live: &mut [u64]) -> Result<usize, Refusal>
     ensures { Lives file.now number units.old live.old result units.new live.new }
 {
     if units.len() < 512 {
-        return Lived::Refused(Refusal::Short);
+        return Err(Refusal::Short);
     }
     if live.len() < 2048 {
-        return Lived::Refused(Refusal::Short);
+        return Err(Refusal::Short);
     }
     live_in(file, number, &mut units[..512], &mut live[..2048])
 }

@@ -1,5 +1,6 @@
 -- Laws of the maps. A search gives what is first, or there is none, since each step looks at one offset and hands on the rest;
 -- and taking sets the bits that it names and no other, since it writes those bytes alone. Assumes nothing.
+use Rattle.std.specs.Prelude.{Option, Some, None}
 use mathlib.Core.Path.{◌≡◌, refl, sym, ap, ◌∙◌, subst}
 use mathlib.Core.Logic.{◌⊎◌, inl, inr}
 use mathlib.Core.Bool.{Bool, true, false, not, ◌&&◌, ◌||◌}
@@ -16,10 +17,6 @@ use borrow.Author.Tests.{eqb-true, eq-eqb, ltb-true, ltb-false, lt-ltb, le-ltb, 
 use Rattle.rows.specs.Row.{bit}
 use Rattle.rows.proofs.Digit.{digit_low, digit_suc, bit_of_or, bit_zero, bit_pow_same, bit_pow_other}
 use Rattle.fields.specs.Pick.{pick}
-use Rattle.maps.specs.declared.Found.{Found}
-use Rattle.maps.specs.declared.Found.TheVariants.{Nothing, At}
-use Rattle.maps.specs.declared.FoundBit.{FoundBit}
-use Rattle.maps.specs.declared.FoundBit.TheVariants.{NoBit, BitAt}
 use Rattle.maps.specs.Maps.{TakenBelow, NextClear, clears, later, first_window, low_from, low_clear, or_below, high_bit, clear_bytes, clear_bit, fill, set_bit}
 
 -- ---- Windows
@@ -109,9 +106,9 @@ none_short n o m h l j i t = go (dec_lt j o)
     go (no x) = omega (arith, (clears_out n (drop j m) t).0, length-drop j m)
 
 -- What the search answers: a window that lies inside and is clear, and no earlier one is; or none is.
-abbrev pub FirstWindow : ℕ → List ℕ → Found → Type 0
-FirstWindow n m (At o) = (o + n ≤ length m) × T (clears n (drop o m)) × NoneBefore n m o × (o < length m)
-FirstWindow n m Nothing = NoneBefore n m (length m)
+abbrev pub FirstWindow : ℕ → List ℕ → Option ℕ → Type 0
+FirstWindow n m (Some o) = (o + n ≤ length m) × T (clears n (drop o m)) × NoneBefore n m o × (o < length m)
+FirstWindow n m None = NoneBefore n m (length m)
 
 pub first_window_lem : (n : ℕ) (m : List ℕ) → FirstWindow n m (first_window n m)
 unfolding first_window pick
@@ -122,26 +119,26 @@ first_window_lem n (b ∷ m) = go (clears n (b ∷ m)) refl (first_window n m) (
     before o e h zero l t = subst T e t
     before o e h (suc j) l t = h j (le_of_suc-le-suc l) t
 
-    go : (c : Bool) → clears n (b ∷ m) ≡ c → (r : Found) → FirstWindow n m r → FirstWindow n (b ∷ m) (pick c (At 0) (later r))
+    go : (c : Bool) → clears n (b ∷ m) ≡ c → (r : Option ℕ) → FirstWindow n m r → FirstWindow n (b ∷ m) (pick c (Some 0) (later r))
     go true e r h = let t : T (clears n (b ∷ m)) = subst T (sym e) tt in
         (omega (arith, (clears_out n (b ∷ m) t).0), t, (λ j l. absurd (not-suc-le-zero l)), omega arith)
-    go false e (At o) h = (omega (arith, h.0), h.1, before o e h.2, omega (arith, h.3))
-    go false e Nothing h = before (length m) e h
+    go false e (Some o) h = (omega (arith, h.0), h.1, before o e h.2, omega (arith, h.3))
+    go false e None h = before (length m) e h
 
 -- No other answer has these properties: for code whose search shows them.
-pub window_only : (n : ℕ) (m : List ℕ) (r : Found) → FirstWindow n m r → r ≡ first_window n m
+pub window_only : (n : ℕ) (m : List ℕ) (r : Option ℕ) → FirstWindow n m r → r ≡ first_window n m
 window_only n m r h = go r h (first_window n m) (first_window_lem n m)
   where
-    go : (r : Found) → FirstWindow n m r → (s : Found) → FirstWindow n m s → r ≡ s
-    go Nothing h Nothing f = refl
-    go Nothing h (At p) f = absurd (h p f.3 f.1)
-    go (At o) h Nothing f = absurd (f o h.3 h.1)
-    go (At o) h (At p) f = split (dec_lt o p) (dec_lt p o)
+    go : (r : Option ℕ) → FirstWindow n m r → (s : Option ℕ) → FirstWindow n m s → r ≡ s
+    go None h None f = refl
+    go None h (Some p) f = absurd (h p f.3 f.1)
+    go (Some o) h None f = absurd (f o h.3 h.1)
+    go (Some o) h (Some p) f = split (dec_lt o p) (dec_lt p o)
       where
-        split : Dec (o < p) → Dec (p < o) → At o ≡ At p
+        split : Dec (o < p) → Dec (p < o) → Some o ≡ Some p
         split (yes x) _ = absurd (f.2 o x h.1)
         split (no x) (yes y) = absurd (h.2 p y f.1)
-        split (no x) (no y) = let e : o ≡ p = omega arith in ap At e
+        split (no x) (no y) = let e : o ≡ p = omega arith in ap Some e
 
 -- ---- Clear rooms
 
@@ -187,9 +184,9 @@ clear_bit_in o k m l e = rw (lt-ltb o (length m) l, e) tt
 
 -- ---- The lowest clear bit
 
-abbrev LowFrom : ℕ → ℕ → ℕ → Found → Type 0
-LowFrom n k b (At j) = (k ≤ j) × (j < k + n) × (bit b j ≡ false) × ((i : ℕ) → k ≤ i → i < j → bit b i ≡ true)
-LowFrom n k b Nothing = (i : ℕ) → k ≤ i → i < k + n → bit b i ≡ true
+abbrev LowFrom : ℕ → ℕ → ℕ → Option ℕ → Type 0
+LowFrom n k b (Some j) = (k ≤ j) × (j < k + n) × (bit b j ≡ false) × ((i : ℕ) → k ≤ i → i < j → bit b i ≡ true)
+LowFrom n k b None = (i : ℕ) → k ≤ i → i < k + n → bit b i ≡ true
 
 low_from_lem : (n k b : ℕ) → LowFrom n k b (low_from n k b)
 unfolding low_from pick
@@ -203,48 +200,48 @@ low_from_lem (suc n) k b = go (bit b k) refl (low_from n (suc k) b) (low_from_le
         split (yes p) = subst (λ (j : ℕ). bit b j ≡ true) (sym p) e
         split (no p) = f (omega arith)
 
-    go : (c : Bool) → bit b k ≡ c → (r : Found) → LowFrom n (suc k) b r → LowFrom (suc n) k b (pick c r (At k))
+    go : (c : Bool) → bit b k ≡ c → (r : Option ℕ) → LowFrom n (suc k) b r → LowFrom (suc n) k b (pick c r (Some k))
     go false e r h = (omega arith, omega arith, e, λ i p q. absurd (omega arith))
-    go true e (At j) h = (omega (arith, h.0), omega (arith, h.1), h.2, λ i p q. first e i p (λ l. h.3 i l q))
-    go true e Nothing h = λ i p q. first e i p (λ l. h i l (omega arith))
+    go true e (Some j) h = (omega (arith, h.0), omega (arith, h.1), h.2, λ i p q. first e i p (λ l. h.3 i l q))
+    go true e None h = λ i p q. first e i p (λ l. h i l (omega arith))
 
 -- k is the lowest clear bit of a byte; or its eight bits are set.
-abbrev pub LowClear : ℕ → Found → Type 0
-LowClear b (At k) = (k < 8) × (bit b k ≡ false) × ((i : ℕ) → i < k → bit b i ≡ true)
-LowClear b Nothing = (i : ℕ) → i < 8 → bit b i ≡ true
+abbrev pub LowClear : ℕ → Option ℕ → Type 0
+LowClear b (Some k) = (k < 8) × (bit b k ≡ false) × ((i : ℕ) → i < k → bit b i ≡ true)
+LowClear b None = (i : ℕ) → i < 8 → bit b i ≡ true
 
 pub low_clear_lem : (b : ℕ) → LowClear b (low_clear b)
 unfolding low_clear
 low_clear_lem b = go (low_from 8 0 b) (low_from_lem 8 0 b)
   where
-    go : (r : Found) → LowFrom 8 0 b r → LowClear b r
-    go (At k) h = (omega (arith, h.1), h.2, λ i l. h.3 i (omega arith) l)
-    go Nothing h = λ i l. h i (omega arith) (omega arith)
+    go : (r : Option ℕ) → LowFrom 8 0 b r → LowClear b r
+    go (Some k) h = (omega (arith, h.1), h.2, λ i l. h.3 i (omega arith) l)
+    go None h = λ i l. h i (omega arith) (omega arith)
 
 -- ---- The search down
 
 -- The highest byte of the range that is not full, and its lowest clear bit; or every byte of the range is full.
-abbrev pub HighBit : ℕ → ℕ → List ℕ → FoundBit → Type 0
-HighBit lo hi m (BitAt o k) = (lo ≤ o) × (o < hi) × (low_clear (get_or m o 0) ≡ At k) × ((j : ℕ) → o < j → j < hi → low_clear (get_or m j 0) ≡ Nothing)
-HighBit lo hi m NoBit = (j : ℕ) → lo ≤ j → j < hi → low_clear (get_or m j 0) ≡ Nothing
+abbrev pub HighBit : ℕ → ℕ → List ℕ → Option (ℕ × ℕ) → Type 0
+HighBit lo hi m (Some (o, k)) = (lo ≤ o) × (o < hi) × (low_clear (get_or m o 0) ≡ Some k) × ((j : ℕ) → o < j → j < hi → low_clear (get_or m j 0) ≡ None)
+HighBit lo hi m None = (j : ℕ) → lo ≤ j → j < hi → low_clear (get_or m j 0) ≡ None
 
 pub high_bit_lem : (lo hi : ℕ) (m : List ℕ) → HighBit lo hi m (high_bit lo hi m)
 unfolding high_bit pick
 high_bit_lem lo zero m = λ j p q. absurd (not-suc-le-zero q)
 high_bit_lem lo (suc i) m = go (ltb i lo) refl (low_clear (get_or m i 0)) refl (high_bit lo i m) (high_bit_lem lo i m)
   where
-    last : low_clear (get_or m i 0) ≡ Nothing → (j : ℕ) → j < suc i → (j < i → low_clear (get_or m j 0) ≡ Nothing) → low_clear (get_or m j 0) ≡ Nothing
+    last : low_clear (get_or m i 0) ≡ None → (j : ℕ) → j < suc i → (j < i → low_clear (get_or m j 0) ≡ None) → low_clear (get_or m j 0) ≡ None
     last e j l f = split (ℕ_discrete j i)
       where
-        split : Dec (j ≡ i) → low_clear (get_or m j 0) ≡ Nothing
-        split (yes p) = subst (λ (n : ℕ). low_clear (get_or m n 0) ≡ Nothing) (sym p) e
+        split : Dec (j ≡ i) → low_clear (get_or m j 0) ≡ None
+        split (yes p) = subst (λ (n : ℕ). low_clear (get_or m n 0) ≡ None) (sym p) e
         split (no p) = f (omega arith)
 
-    go : (c : Bool) → ltb i lo ≡ c → (r : Found) → low_clear (get_or m i 0) ≡ r → (d : FoundBit) → HighBit lo i m d → HighBit lo (suc i) m (pick c NoBit (or_below i r d))
+    go : (c : Bool) → ltb i lo ≡ c → (r : Option ℕ) → low_clear (get_or m i 0) ≡ r → (d : Option (ℕ × ℕ)) → HighBit lo i m d → HighBit lo (suc i) m (pick c None (or_below i r d))
     go true e r q d h = λ j l k. absurd (omega (arith, ltb-true i lo e))
-    go false e (At k) q d h = (ltb-false i lo e, omega arith, q, λ j l u. absurd (omega arith))
-    go false e Nothing q (BitAt o k) h = (h.0, omega (arith, h.1), h.2, λ j l u. last q j u (λ v. h.3 j l v))
-    go false e Nothing q NoBit h = λ j l u. last q j u (λ v. h j l v)
+    go false e (Some k) q d h = (ltb-false i lo e, omega arith, q, λ j l u. absurd (omega arith))
+    go false e None q (Some (o, k)) h = (h.0, omega (arith, h.1), h.2, λ j l u. last q j u (λ v. h.3 j l v))
+    go false e None q None h = λ j l u. last q j u (λ v. h j l v)
 
 -- The whole search comes to what is left of it: a full byte is passed, the first that is not full answers, and below lo none is left.
 high_step : (lo i : ℕ) (m : List ℕ) → lo < i → high_bit lo i m ≡ or_below (i - 1) (low_clear (get_or m (i - 1) 0)) (high_bit lo (i - 1) m)
@@ -252,13 +249,13 @@ unfolding high_bit pick
 high_step lo zero m l = absurd (not-suc-le-zero l)
 high_step lo (suc i) m l = let e : suc i - 1 ≡ i = omega arith in rw (e, le-ltb i lo (le_of_suc-le-suc l))
 
-pub high_pass : (lo i : ℕ) (m : List ℕ) → lo < i → low_clear (get_or m (i - 1) 0) ≡ Nothing → high_bit lo i m ≡ high_bit lo (i - 1) m
-high_pass lo i m l e = high_step lo i m l ∙ ap (λ (r : Found). or_below (i - 1) r (high_bit lo (i - 1) m)) e
+pub high_pass : (lo i : ℕ) (m : List ℕ) → lo < i → low_clear (get_or m (i - 1) 0) ≡ None → high_bit lo i m ≡ high_bit lo (i - 1) m
+high_pass lo i m l e = high_step lo i m l ∙ ap (λ (r : Option ℕ). or_below (i - 1) r (high_bit lo (i - 1) m)) e
 
-pub high_hit : (lo i k : ℕ) (m : List ℕ) → lo < i → low_clear (get_or m (i - 1) 0) ≡ At k → high_bit lo i m ≡ BitAt (i - 1) k
-high_hit lo i k m l e = high_step lo i m l ∙ ap (λ (r : Found). or_below (i - 1) r (high_bit lo (i - 1) m)) e
+pub high_hit : (lo i k : ℕ) (m : List ℕ) → lo < i → low_clear (get_or m (i - 1) 0) ≡ Some k → high_bit lo i m ≡ Some (i - 1, k)
+high_hit lo i k m l e = high_step lo i m l ∙ ap (λ (r : Option ℕ). or_below (i - 1) r (high_bit lo (i - 1) m)) e
 
-pub high_end : (lo hi : ℕ) (m : List ℕ) → hi ≤ lo → high_bit lo hi m ≡ NoBit
+pub high_end : (lo hi : ℕ) (m : List ℕ) → hi ≤ lo → high_bit lo hi m ≡ None
 unfolding high_bit pick
 high_end lo zero m l = refl
 high_end lo (suc i) m l = rw (lt-ltb i lo l)

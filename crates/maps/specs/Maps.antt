@@ -1,12 +1,8 @@
 -- Document 01, "Placement": occupancy maps. A map is a list of bytes, and a set bit of it is taken.
-use Rattle.std.specs.Prelude.{◌≡◌, Bool, true, false, not, ◌&&◌, List, [], ◌∷◌, ℕ, zero, suc, ◌+◌, ◌^◌, ◌≤◌, ◌<◌, ltb, leb, eqb, length, get_or, set, drop}
+use Rattle.std.specs.Prelude.{◌≡◌, Bool, true, false, not, ◌&&◌, List, [], ◌∷◌, ℕ, zero, suc, ◌+◌, ◌^◌, ◌≤◌, ◌<◌, ltb, leb, eqb, length, get_or, set, drop, Option, Some, None}
 use Rattle.std.specs.Int.Bits.{bit_or}
 use Rattle.rows.specs.Row.{bit}
 use Rattle.fields.specs.Pick.{pick}
-use Rattle.maps.specs.declared.Found.{Found}
-use Rattle.maps.specs.declared.Found.TheVariants.{Nothing, At}
-use Rattle.maps.specs.declared.FoundBit.{FoundBit}
-use Rattle.maps.specs.declared.FoundBit.TheVariants.{NoBit, BitAt}
 
 -- No byte below `o` is clear.
 abbrev pub TakenBelow : List ℕ → ℕ → Type 0
@@ -25,42 +21,42 @@ clears zero m = true
 clears (suc n) [] = false
 clears (suc n) (b ∷ m) = let rest = clears n m in eqb b 0 && rest
 
-abbrev pub later : Found → Found
-later Nothing = Nothing
-later (At o) = At (suc o)
+abbrev pub later : Option ℕ → Option ℕ
+later None = None
+later (Some o) = Some (suc o)
 
 -- The first clear window: the least offset from which n bytes are clear.
-unfoldable pub first_window : ℕ → List ℕ → Found
-first_window n [] = Nothing
-first_window n (b ∷ m) = let rest = later (first_window n m) in pick (clears n (b ∷ m)) (At 0) rest
+unfoldable pub first_window : ℕ → List ℕ → Option ℕ
+first_window n [] = None
+first_window n (b ∷ m) = let rest = later (first_window n m) in pick (clears n (b ∷ m)) (Some 0) rest
 
 -- What is found lies below n.
-abbrev pub FoundIn : ℕ → Found → Type 0
-FoundIn n Nothing = Unit {0}
-FoundIn n (At o) = o < n
+abbrev pub FoundIn : ℕ → Option ℕ → Type 0
+FoundIn n None = Unit {0}
+FoundIn n (Some o) = o < n
 
 -- Of the n bits of a byte from bit k on, the first that is clear; the lowest clear bit of a byte.
-unfoldable pub low_from : ℕ → ℕ → ℕ → Found
-low_from zero k b = Nothing
-low_from (suc n) k b = let rest = low_from n (suc k) b in pick (bit b k) rest (At k)
+unfoldable pub low_from : ℕ → ℕ → ℕ → Option ℕ
+low_from zero k b = None
+low_from (suc n) k b = let rest = low_from n (suc k) b in pick (bit b k) rest (Some k)
 
-unfoldable pub low_clear : ℕ → Found
+unfoldable pub low_clear : ℕ → Option ℕ
 low_clear b = low_from 8 0 b
 
 -- That bit of byte i, or what comes below.
-abbrev pub or_below : ℕ → Found → FoundBit → FoundBit
-or_below i Nothing below = below
-or_below i (At k) below = BitAt i k
+abbrev pub or_below : ℕ → Option ℕ → Option (ℕ × ℕ) → Option (ℕ × ℕ)
+or_below i None below = below
+or_below i (Some k) below = Some (i, k)
 
 -- The search for a bit goes down: the highest of the bytes lo to hi - 1 that has a clear bit, and in it the lowest.
-unfoldable pub high_bit : ℕ → ℕ → List ℕ → FoundBit
-high_bit lo zero m = NoBit
-high_bit lo (suc i) m = let below = high_bit lo i m in pick (ltb i lo) NoBit (or_below i (low_clear (get_or m i 0)) below)
+unfoldable pub high_bit : ℕ → ℕ → List ℕ → Option (ℕ × ℕ)
+high_bit lo zero m = None
+high_bit lo (suc i) m = let below = high_bit lo i m in pick (ltb i lo) None (or_below i (low_clear (get_or m i 0)) below)
 
 -- A found bit is one of a byte below n.
-abbrev pub BitIn : ℕ → FoundBit → Type 0
-BitIn n NoBit = Unit {0}
-BitIn n (BitAt o k) = (o < n) × (k < 8)
+abbrev pub BitIn : ℕ → Option (ℕ × ℕ) → Type 0
+BitIn n None = Unit {0}
+BitIn n (Some (o, k)) = (o < n) × (k < 8)
 
 -- The n bytes from o on lie inside the map and are clear; so does bit k of byte o, and is.
 unfoldable pub clear_bytes : ℕ → ℕ → List ℕ → Bool

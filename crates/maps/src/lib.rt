@@ -2,22 +2,8 @@
 // Knows bytes; gives the next clear byte, the first clear window, the clear bit that a search from the last byte down meets, and the taking of bytes and bits.
 #![tactic(auto)]
 
-ghost use Rattle.std.specs.Prelude.{◌≡◌, ◌+◌, ◌≤◌, ◌<◌, length};
+ghost use Rattle.std.specs.Prelude.{◌≡◌, Some, ◌+◌, ◌≤◌, ◌<◌, length};
 ghost use Rattle.maps.specs.Maps.{TakenBelow, NextClear, first_window, FoundIn, low_clear, high_bit, BitIn, clear_bytes, clear_bit, fill, set_bit};
-
-// Where a window is, or that there is none.
-#[derive(Clone, Copy)]
-pub enum Found {
-    Nothing,
-    At(usize),
-}
-
-// Where a clear bit is, or that there is none.
-#[derive(Clone, Copy)]
-pub enum FoundBit {
-    NoBit,
-    BitAt { offset: usize, bit: usize },
-}
 
 // The first offset at or after `from` whose byte is 0, or the map's length.
 pub fn next_clear(map: &[u8], from: usize) -> usize
@@ -36,22 +22,22 @@ pub fn next_clear(map: &[u8], from: usize) -> usize
 
 // The least offset from which n bytes are clear. No window over a byte that is not 0 is, so that the search begins at `from`, below which there are such bytes
 // only, and goes on at the next clear one. A window of no bytes is at offset 0.
-pub fn first_clear(map: &[u8], from: usize, n: usize) -> Found
+pub fn first_clear(map: &[u8], from: usize, n: usize) -> Option<usize>
     requires { TakenBelow map.now from }
     ensures { (result ≡ first_window n map.now) × FoundIn (length map.now) result }
 {
     let mut o = if n == 0 { 0 } else { from };
     'search: loop {
         if map.len() <= o {
-            break 'search Found::Nothing;
+            break 'search None;
         }
         let mut k = 0;
         loop {
             if k == n {
-                break 'search Found::At(o);
+                break 'search Some(o);
             }
             if map.len() <= o + k {
-                break 'search Found::Nothing;
+                break 'search None;
             }
             if map[o + k] != 0 {
                 break;
@@ -65,13 +51,13 @@ pub fn first_clear(map: &[u8], from: usize, n: usize) -> Found
 // The lowest clear bit of a byte that is not full.
 fn low_clear(b: u8) -> usize
     requires { b < 255 }
-    ensures { (low_clear b ≡ Found.At result) × (result < 8) }
+    ensures { (low_clear b ≡ Some result) × (result < 8) }
 {
     u8::trailing_zeros(!b) as usize
 }
 
-// The highest of the bytes lo to hi - 1 that is not full, and its lowest clear bit.
-pub fn high_bit(map: &[u8], lo: usize, hi: usize) -> FoundBit
+// The offset of the highest of the bytes lo to hi - 1 that is not full, and its lowest clear bit.
+pub fn high_bit(map: &[u8], lo: usize, hi: usize) -> Option<(usize, usize)>
     requires { hi ≤ length map.now }
     ensures { (result ≡ high_bit lo hi map.now) × BitIn hi result }
 {
@@ -80,13 +66,10 @@ pub fn high_bit(map: &[u8], lo: usize, hi: usize) -> FoundBit
         i -= 1;
         let b = map[i];
         if b != 255 {
-            return FoundBit::BitAt {
-                offset: i,
-                bit: low_clear(b),
-            };
+            return Some((i, low_clear(b)));
         }
     }
-    FoundBit::NoBit
+    None
 }
 
 // Do n bytes lie inside the map from `offset` on, all clear?

@@ -1,9 +1,7 @@
 -- What is promised of a placing (mission, demand 3): of one storage at its placement, and of two that touch a common bit.
-use Rattle.std.specs.Prelude.{◌≡◌, Bool, not, List, [], ◌∷◌, ℕ, ◌+◌, ◌≤◌, ◌<◌, T, eqb}
+use Rattle.std.specs.Prelude.{◌≡◌, Bool, not, List, [], ◌∷◌, ℕ, ◌+◌, ◌≤◌, ◌<◌, T, eqb, Option, Some, None}
 use Rattle.fields.specs.Pick.{pick, ◌and◌, ◌or◌, All}
 use Rattle.storages.specs.declared.Placement.{Placement}
-use Rattle.storages.specs.declared.Fixed.{Fixed}
-use Rattle.storages.specs.declared.Fixed.TheVariants.{Free, At}
 use Rattle.storages.specs.declared.Storage.{Storage}
 use Rattle.storages.specs.declared.Space.{Space}
 use Rattle.storages.specs.declared.Space.TheVariants.{App, Work}
@@ -22,9 +20,9 @@ right_form kind c =
     ((eqb c 3 or eqb c 5) or (eqb c 10 or eqb c 11))
 
 -- An unfixed storage sits in an allowed region in the right form; a fixed one at its fixed place, and kinds match.
-abbrev pub LegalBy : Storage → Placement → Fixed → Type 0
-LegalBy s p Free = T (allows s (region_of p)) × T (right_form s.kind (code_of p))
-LegalBy s p (At q) = (p ≡ q) × T (kind_matches s.kind s.len (code_of p))
+abbrev pub LegalBy : Storage → Placement → Option Placement → Type 0
+LegalBy s p None = T (allows s (region_of p)) × T (right_form s.kind (code_of p))
+LegalBy s p (Some q) = (p ≡ q) × T (kind_matches s.kind s.len (code_of p))
 
 abbrev pub Legal : Storage → Placement → Type 0
 Legal s p = LegalBy s p s.fixed
@@ -49,14 +47,14 @@ Small Nowhere = Unit {0}
 Small (Bytes sp o n) = Unit {0}
 Small (OneBit sp o k) = k < 8
 
-abbrev pub FixedSmall : ℕ → Fixed → Type 0
-FixedSmall n Free = Unit {0}
-FixedSmall n (At p) = Small (room n p)
+abbrev pub FixedSmall : ℕ → Option Placement → Type 0
+FixedSmall n None = Unit {0}
+FixedSmall n (Some p) = Small (room n p)
 
 -- What two storages must be to touch a common bit: s is the earlier one in the file, t the later.
 pub record Sharing (g : Given) (s t : Storage) : Type 0 where
-  pub free_s : s.fixed ≡ Free
-  pub free_t : t.fixed ≡ Free
+  pub free_s : s.fixed ≡ None
+  pub free_t : t.fixed ≡ None
   pub owners : s.owner ≡ t.owner
   pub owned : ¬ (t.owner ≡ the_program)
   pub kinds : s.kind ≡ t.kind

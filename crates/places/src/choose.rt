@@ -31,26 +31,26 @@ fn narrow(n: usize) -> u16
 }
 
 // A found bit over 7 and a found work offset over 511 fit no placement.
-fn fit(id: u16, offset: usize, bit: usize, p: Placement) -> Chosen
+fn fit(id: u16, offset: usize, bit: usize, p: Placement) -> Result<Placement, Refusal>
     ensures { result ≡ fitted id offset bit p }
 {
     if 7 < bit {
-        return Chosen::Refused(Refusal::Misfit(id as usize));
+        return Err(Refusal::Misfit(id as usize));
     }
     if 511 < offset {
-        return Chosen::Refused(Refusal::Misfit(id as usize));
+        return Err(Refusal::Misfit(id as usize));
     }
-    Chosen::Spot(p)
+    Ok(p)
 }
 
 // A bit that was found in the work map takes a shadow name where shadow is allowed.
-fn name_bit(s: Storage, found: FoundBit) -> Chosen
+fn name_bit(s: Storage, found: Option<(usize, usize)>) -> Result<Placement, Refusal>
     requires { BitIn 512 found }
     ensures { result ≡ name_bit s found }
 {
     match found {
-        FoundBit::NoBit => Chosen::Refused(Refusal::WorkFull(1)),
-        FoundBit::BitAt { offset, bit } => {
+        None => Err(Refusal::WorkFull(1)),
+        Some((offset, bit)) => {
             let o = narrow(offset);
             let b = narrow(bit);
             if allows_region(s, 5) {
@@ -73,13 +73,13 @@ fn name_bit(s: Storage, found: FoundBit) -> Chosen
 }
 
 // A window that was found in the work map, named likewise.
-fn name_bytes(s: Storage, found: Found) -> Chosen
+fn name_bytes(s: Storage, found: Option<usize>) -> Result<Placement, Refusal>
     requires { FoundIn 512 found }
     ensures { result ≡ name_bytes s found }
 {
     match found {
-        Found::Nothing => Chosen::Refused(Refusal::WorkFull(s.len as usize)),
-        Found::At(offset) => {
+        None => Err(Refusal::WorkFull(s.len as usize)),
+        Some(offset) => {
             let o = narrow(offset);
             if allows_region(s, 5) {
                 fit(s.id, offset, 0, Placement::ShadowStack { offset: o })
@@ -101,24 +101,24 @@ fn allows_work(s: Storage) -> bool
 }
 
 // A bit in the work map.
-fn work_bit(s: Storage, work: &[u8]) -> Chosen
+fn work_bit(s: Storage, work: &[u8]) -> Result<Placement, Refusal>
     requires { length work.now ≤ 512 }
     ensures { result ≡ work_bit s work.now }
 {
     if allows_work(s) {
         return name_bit(s, high_bit(work, 0, work.len()));
     }
-    Chosen::Refused(Refusal::NoPlace(s.id as usize))
+    Err(Refusal::NoPlace(s.id as usize))
 }
 
 // The bit that was found in application RAM, or else one in the work map.
-fn app_bit(s: Storage, found: FoundBit, work: &[u8]) -> Chosen
+fn app_bit(s: Storage, found: Option<(usize, usize)>, work: &[u8]) -> Result<Placement, Refusal>
     requires { BitIn 256 found × (length work.now ≤ 512) }
     ensures { result ≡ app_bit s found work.now }
 {
     match found {
-        FoundBit::NoBit => work_bit(s, work),
-        FoundBit::BitAt { offset, bit } => {
+        None => work_bit(s, work),
+        Some((offset, bit)) => {
             let o = narrow(offset);
             let b = narrow(bit);
             fit(
@@ -132,7 +132,7 @@ fn app_bit(s: Storage, found: FoundBit, work: &[u8]) -> Chosen
 }
 
 // A bit: application RAM first, whether or not the storage must be direct. Bytes lo to hi - 1 of it are looked through.
-pub fn choose_bit(s: Storage, app: &[u8], work: &[u8], lo: usize, hi: usize) -> Chosen
+pub fn choose_bit(s: Storage, app: &[u8], work: &[u8], lo: usize, hi: usize) -> Result<Placement, Refusal>
     requires { (hi ≤ length app.now) × (length app.now ≤ 256) × (length work.now ≤ 512) }
     ensures { (g : Given) → g.lo ≡ lo → g.hi ≡ hi → result ≡ choose_bit g s (record { app = app.now; wrk = work.now }) }
 {
@@ -143,32 +143,32 @@ pub fn choose_bit(s: Storage, app: &[u8], work: &[u8], lo: usize, hi: usize) -> 
 }
 
 // Bytes after application RAM: Flash, then the work map, whose bytes below `low` are taken.
-fn work_bytes(s: Storage, work: &[u8], low: usize) -> Chosen
+fn work_bytes(s: Storage, work: &[u8], low: usize) -> Result<Placement, Refusal>
     requires { (length work.now ≤ 512) × TakenBelow work.now low }
     ensures { result ≡ work_bytes s work.now }
 {
     if allows_region(s, 7) {
-        return Chosen::Spot(Placement::Flash);
+        return Ok(Placement::Flash);
     }
     if allows_work(s) {
         return name_bytes(s, first_clear(work, low, s.len as usize));
     }
-    Chosen::Refused(Refusal::NoPlace(s.id as usize))
+    Err(Refusal::NoPlace(s.id as usize))
 }
 
 // The window that was found in application RAM; without one a direct storage is refused, and others try on.
-fn app_bytes(s: Storage, found: Found, work: &[u8], low: usize) -> Chosen
+fn app_bytes(s: Storage, found: Option<usize>, work: &[u8], low: usize) -> Result<Placement, Refusal>
     requires { FoundIn 256 found × (length work.now ≤ 512) × TakenBelow work.now low }
     ensures { result ≡ app_bytes s found work.now }
 {
     match found {
-        Found::At(offset) => {
+        Some(offset) => {
             let o = narrow(offset);
-            Chosen::Spot(Placement::ApplicationRam { offset: o })
+            Ok(Placement::ApplicationRam { offset: o })
         }
-        Found::Nothing => {
+        None => {
             if s.direct {
-                return Chosen::Refused(Refusal::ApplicationFull(s.len as usize));
+                return Err(Refusal::ApplicationFull(s.len as usize));
             }
             work_bytes(s, work, low)
         }
@@ -176,7 +176,7 @@ fn app_bytes(s: Storage, found: Found, work: &[u8], low: usize) -> Chosen
 }
 
 // Bytes: the first clear window of application RAM, where that is allowed.
-pub fn choose_bytes(s: Storage, app: &[u8], work: &[u8], floor: Floor) -> Chosen
+pub fn choose_bytes(s: Storage, app: &[u8], work: &[u8], floor: Floor) -> Result<Placement, Refusal>
     requires { (length app.now ≤ 256) × (length work.now ≤ 512) × Solid floor app.now work.now }
     ensures { result ≡ choose_bytes s (record { app = app.now; wrk = work.now }) }
 {
@@ -205,12 +205,12 @@ pub fn choose_free(
     floor: Floor,
     lo: usize,
     hi: usize,
-) -> Chosen
+) -> Result<Placement, Refusal>
     requires { (hi ≤ length app.now) × (length app.now ≤ 256) × (length work.now ≤ 512) × Solid floor app.now work.now }
     ensures { (g : Given) → g.lo ≡ lo → g.hi ≡ hi → result ≡ choose_free g s (record { app = app.now; wrk = work.now }) }
 {
     if sits_in_flag(s) {
-        return Chosen::Spot(Placement::CarryFlag);
+        return Ok(Placement::CarryFlag);
     }
     if takes_bit(s.kind) {
         return choose_bit(s, app, work, lo, hi);
@@ -230,27 +230,27 @@ fn is_open(s: Storage, p: Placement, app: &[u8], work: &[u8]) -> bool
 }
 
 // A storage at its fixed place.
-pub fn choose_fixed(s: Storage, p: Placement, app: &[u8], work: &[u8]) -> Chosen
+pub fn choose_fixed(s: Storage, p: Placement, app: &[u8], work: &[u8]) -> Result<Placement, Refusal>
     requires { Small (room s.len p) }
     ensures { result ≡ choose_fixed s p (record { app = app.now; wrk = work.now }) }
 {
     if !kind_matches(s.kind, s.len, code_of(p)) {
-        return Chosen::Refused(Refusal::BadFixed(s.id as usize));
+        return Err(Refusal::BadFixed(s.id as usize));
     }
     if is_open(s, p, app, work) {
-        return Chosen::Spot(p);
+        return Ok(p);
     }
-    Chosen::Refused(Refusal::Conflict(s.id as usize))
+    Err(Refusal::Conflict(s.id as usize))
 }
 
 // A place of its own for a storage.
-pub fn choose(s: Storage, app: &[u8], work: &[u8], floor: Floor, lo: usize, hi: usize) -> Chosen
+pub fn choose(s: Storage, app: &[u8], work: &[u8], floor: Floor, lo: usize, hi: usize) -> Result<Placement, Refusal>
     requires { (hi ≤ length app.now) × (length app.now ≤ 256) × (length work.now ≤ 512) × FixedSmall s.len s.fixed × Solid floor app.now work.now }
     ensures { (g : Given) → g.lo ≡ lo → g.hi ≡ hi → result ≡ choose g s (record { app = app.now; wrk = work.now }) }
 {
     let fixed = s.fixed;
     match fixed {
-        Fixed::Free => choose_free(s, app, work, floor, lo, hi),
-        Fixed::At(p) => choose_fixed(s, p, app, work),
+        None => choose_free(s, app, work, floor, lo, hi),
+        Some(p) => choose_fixed(s, p, app, work),
     }
 }

@@ -1,5 +1,6 @@
 -- What the loop over the records keeps: some state of the definitions stands behind the code's numbers and words, and what is left of the file comes to
 -- what the whole comes to. Each way out of the loop is one law here.
+use Rattle.std.specs.Prelude.{Result, Ok, Err}
 use mathlib.Core.Path.{◌≡◌, refl, sym, ap, ap₂, ◌∙◌}
 use mathlib.Core.Bool.{Bool, true, false, false≢true}
 use mathlib.Core.Logic.{◌⊎◌, inl, inr}
@@ -24,10 +25,7 @@ use Rattle.records.specs.Outcome.{laid}
 use Rattle.records.specs.Mirror.{Rising, seen, reader_of, Kept, Holds, Enters, Sane, Comes, Walked}
 use Rattle.records.specs.declared.Refusal.{Refusal}
 use Rattle.records.specs.declared.Refusal.TheVariants.{Form}
-use Rattle.records.specs.declared.Checked.TheVariants as checked
 use Rattle.records.specs.declared.reader.Reader.{Reader}
-use Rattle.records.specs.declared.reader.Taken.{Taken}
-use Rattle.records.specs.declared.reader.Taken.TheVariants.{Next, Refused}
 use Rattle.fields.proofs.ByKind.{length_none}
 use Rattle.fields.proofs.Front.{and_both, read_whole, whole_read}
 use Rattle.records.proofs.Took.{Named, Took, stepped, unnamed, given_to}
@@ -262,7 +260,7 @@ module _ (f : List ℕ) (c : Reader) (at : ℕ) (ids table blocks words heads ne
     unfolding check
     answer_is w e = pick_no _ _ _ (le-ltb 16384 (length f) short) ∙ ap (closed (length f)) e
 
-    pub reading_done : (at < length f → ⊥) → c.stage ≡ 5 → Walked (check one f) (checked.Units c.units) words numbers (numbers_in one f) table (tabled one f)
+    pub reading_done : (at < length f → ⊥) → c.stage ≡ 5 → Walked (check one f) (Ok c.units) words numbers (numbers_in one f) table (tabled one f)
     unfolding numbers_in
     reading_done m e = rw (answer_is (next g.state) all, all, pick_yes (eqb g.state.stage at_end) _ _ (eq-eqb _ _ (ends ∙ e)), g.is) (refl, g.holds.unit_words, g.holds.number_list, sym entries)
       where
@@ -275,8 +273,8 @@ module _ (f : List ℕ) (c : Reader) (at : ℕ) (ids table blocks words heads ne
         ends : g.state.stage ≡ c.stage
         ends = sym (ap (λ (r : Reader). r.stage) g.is)
 
-    pub reading_open : (at < length f → ⊥) → (c.stage ≡ 5 → ⊥) → Walked (check one f) (checked.Refused (Form at)) words numbers (numbers_in one f) table (tabled one f)
-    reading_open m e = rw (answer_is (next g.state) all, pick_no (eqb g.state.stage at_end) _ _ (ne_eqb _ _ (λ q. e (ends ∙ q)))) (ap (λ i. checked.Refused (Form i)) end_at)
+    pub reading_open : (at < length f → ⊥) → (c.stage ≡ 5 → ⊥) → Walked (check one f) (Err (Form at)) words numbers (numbers_in one f) table (tabled one f)
+    reading_open m e = rw (answer_is (next g.state) all, pick_no (eqb g.state.stage at_end) _ _ (ne_eqb _ _ (λ q. e (ends ∙ q)))) (ap (λ i. Err (Form i)) end_at)
       where
         end_at : at ≡ length f
         end_at = omega (arith, g.going.within)
@@ -289,20 +287,20 @@ module _ (f : List ℕ) (c : Reader) (at : ℕ) (ids table blocks words heads ne
 
     -- `t` is the tail that the code holds
     module _ (t : List ℕ) (here : t ≡ drop at f) (some : at < length f) where
-      pub reading_fault : read one t ≡ fault → Walked (check one f) (checked.Refused (Form at)) words numbers (numbers_in one f) table (tabled one f)
+      pub reading_fault : read one t ≡ fault → Walked (check one f) (Err (Form at)) words numbers (numbers_in one f) table (tabled one f)
       reading_fault e = rw (answer_is (refused (Form at)) (going_fault one _ f g.state at g.going t here some e))
 
       -- the record is whole: `r` is what the step answered, and the lent words are as it left them
-      module _ (n : ℕ) (whole_here : read one t ≡ whole n (record_at one t)) (r : Taken) (ids' table' blocks' words' heads' nexts' numbers' : List ℕ)
+      module _ (n : ℕ) (whole_here : read one t ≡ whole n (record_at one t)) (r : Result Reader Refusal) (ids' table' blocks' words' heads' nexts' numbers' : List ℕ)
           (comes : Comes (step one g.state at (record_at one t)) r (λ s'. Enters s' (record_at one t) at c.named table ids' table' blocks' words' heads' nexts' numbers')) where
-        pub reading_refused : (x : Refusal) → r ≡ Refused x → Walked (check one f) (checked.Refused x) words' numbers' (numbers_in one f) table' (tabled one f)
+        pub reading_refused : (x : Refusal) → r ≡ Err x → Walked (check one f) (Err x) words' numbers' (numbers_in one f) table' (tabled one f)
         reading_refused x e = go (step one g.state at (record_at one t)) refl comes
           where
-            go : (w : Turn) → step one g.state at (record_at one t) ≡ w → Comes w r (λ s'. Enters s' (record_at one t) at c.named table ids' table' blocks' words' heads' nexts' numbers') → Walked (check one f) (checked.Refused x) words' numbers' (numbers_in one f) table' (tabled one f)
+            go : (w : Turn) → step one g.state at (record_at one t) ≡ w → Comes w r (λ s'. Enters s' (record_at one t) at c.named table ids' table' blocks' words' heads' nexts' numbers') → Walked (check one f) (Err x) words' numbers' (numbers_in one f) table' (tabled one f)
             go (next s') q h = let z : ◌≡◌ {A = ℕ} 0 1 = cc h.0 in absurd (omega arith)
             go (refused y) q h = let i : y ≡ x = cc in rw (answer_is (refused y) (going_refused one _ f g.state at g.going t here n _ y whole_here q), i)
 
-        pub reading_on : (c' : Reader) → r ≡ Next c' → Reading f c' (at + n) ids' table' blocks' words' heads' nexts' numbers'
+        pub reading_on : (c' : Reader) → r ≡ Ok c' → Reading f c' (at + n) ids' table' blocks' words' heads' nexts' numbers'
         reading_on c' e = go (step one g.state at (record_at one t)) refl comes
           where
             go : (w : Turn) → step one g.state at (record_at one t) ≡ w → Comes w r (λ s'. Enters s' (record_at one t) at c.named table ids' table' blocks' words' heads' nexts' numbers') → Reading f c' (at + n) ids' table' blocks' words' heads' nexts' numbers'

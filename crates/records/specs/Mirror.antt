@@ -1,5 +1,5 @@
 -- How the code's numbers and lent words stand for the reader's state. Contracts of the functions inside this crate cite it; no public contract does.
-use Rattle.std.specs.Prelude.{◌≡◌, true, List, [], ◌∷◌, map, ℕ, ◌+◌, ◌*◌, ◌/◌, ◌%◌, ◌≤◌, ◌<◌, length, get_or, take}
+use Rattle.std.specs.Prelude.{◌≡◌, true, List, [], ◌∷◌, map, ℕ, ◌+◌, ◌*◌, ◌/◌, ◌%◌, ◌≤◌, ◌<◌, length, get_or, take, Result, Ok, Err}
 use Rattle.rows.specs.Row.{pack}
 use Rattle.rows.specs.Links.{Linked}
 use Rattle.fields.specs.Pick.{has, times}
@@ -10,12 +10,9 @@ use Rattle.records.specs.Check.{Answer, units, refusal}
 use Rattle.records.specs.Index.{listed, entered}
 use Rattle.records.specs.Outcome.{laid}
 use Rattle.fields.specs.Table.{row_word}
-use Rattle.records.specs.declared.Checked.{Checked}
-use Rattle.records.specs.declared.Checked.TheVariants as checked
 use Rattle.records.specs.declared.pending.Pending.{Pending}
 use Rattle.records.specs.declared.reader.Reader.{Reader}
-use Rattle.records.specs.declared.reader.Taken.{Taken}
-use Rattle.records.specs.declared.reader.Taken.TheVariants.{Next, Refused}
+use Rattle.records.specs.declared.Refusal.{Refusal}
 
 -- The fields given do not fall: the last one first, each at least the one before it.
 abbrev pub Rising : List ℕ → Type 0
@@ -110,11 +107,11 @@ pub record Sane (c : Reader) (at : ℕ) (ids table blocks words heads nexts numb
   pub named_most : c.named ≤ 2341
 
 -- What a turn comes to in code: the numbers of the next state, with what then holds of the lent words; or the refusal.
-abbrev pub Comes : Turn → Taken → (State → Type 0) → Type 0
-Comes (next s) r P = (r ≡ Next (reader_of s)) × P s
-Comes (refused x) r P = r ≡ Refused x
+abbrev pub Comes : Turn → Result Reader Refusal → (State → Type 0) → Type 0
+Comes (next s) r P = (r ≡ Ok (reader_of s)) × P s
+Comes (refused x) r P = r ≡ Err x
 
 -- What reading the whole file comes to: the units with their numbers and the table of functions, or the refusal.
-abbrev pub Walked : Answer → Checked → List ℕ → List ℕ → List ℕ → List ℕ → List ℕ → Type 0
-Walked (units us) r words found ns table ts = (r ≡ checked.Units (length us)) × (words ≡ laid 512 us []) × (take (length ns) found ≡ ns) × (table ≡ ts)
-Walked (refusal x) r words found ns table ts = r ≡ checked.Refused x
+abbrev pub Walked : Answer → Result ℕ Refusal → List ℕ → List ℕ → List ℕ → List ℕ → List ℕ → Type 0
+Walked (units us) r words found ns table ts = (r ≡ Ok (length us)) × (words ≡ laid 512 us []) × (take (length ns) found ≡ ns) × (table ≡ ts)
+Walked (refusal x) r words found ns table ts = r ≡ Err x

@@ -31,13 +31,6 @@ pub enum Refusal {
     Misfit(usize),
 }
 
-// The answer of `check`: how many units the file has, or its first fault.
-#[derive(Clone, Copy)]
-pub enum Checked {
-    Units(usize),
-    Refused(Refusal),
-}
-
 // The number of a refusal.
 pub fn number_of(r: Refusal) -> u32
     ensures { result ≡ number_of r }
@@ -96,30 +89,30 @@ pub fn number_units(
     words: &mut [u32],
     numbers: &mut [u16],
     table: &mut [u16],
-) -> Checked
+) -> Result<usize, Refusal>
     requires { (length words.old ≡ 512) × (2341 ≤ length numbers.old) × (length table.old ≡ 512) }
     ensures { Numbers file.now result words.new numbers.new table.new }
 {
     clear(words);
     if 16384 < file.len() {
-        return Checked::Refused(Refusal::Limit(16384));
+        return Err(Refusal::Limit(16384));
     }
     index::blank(table);
     match walk::walk(file, words, numbers, table) {
-        Checked::Units(n) => Checked::Units(n),
-        Checked::Refused(r) => {
+        Ok(n) => Ok(n),
+        Err(r) => {
             clear(words);
-            Checked::Refused(r)
+            Err(r)
         }
     }
 }
 
 // Checks a file: how many units it has, which `units` then holds by number, or the first refusal.
-pub fn check(file: &[u8], units: &mut [u32]) -> Checked
+pub fn check(file: &[u8], units: &mut [u32]) -> Result<usize, Refusal>
     ensures { Checks file.now units.old result units.new }
 {
     if units.len() < 512 {
-        return Checked::Refused(Refusal::Short);
+        return Err(Refusal::Short);
     }
     let mut numbers = [0u16; 2341];
     let mut table = [0u16; 512];

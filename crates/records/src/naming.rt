@@ -9,7 +9,7 @@ ghost use Rattle.records.specs.Mirror.{reader_of, Low, Holds, Comes};
 
 use crate::Refusal;
 use crate::buckets::{append, find, word_of};
-use crate::reader::{Reader, Taken};
+use crate::reader::Reader;
 
 // A storage's id is declared.
 fn declared(ids: &[u64], id: u16) -> bool
@@ -47,7 +47,7 @@ fn admit_word(
     heads: &mut [u16],
     nexts: &mut [u16],
     numbers: &mut [u16],
-) -> Taken
+) -> Result<Reader, Refusal>
     requires { (length words.old ≡ 512) × (c.units ≤ 512) × Low heads.old nexts.old × (c.named < length numbers.old) }
     ensures { (s : State) (is fs bs : List ℕ) → c ≡ reader_of s
         → Holds s is fs bs words.old heads.old nexts.old numbers.old
@@ -59,14 +59,14 @@ fn admit_word(
     let found = find(words, heads, nexts, word);
     if found < 512 {
         numbers[named] = found as u16;
-        return Taken::Next(after_number(c, units, named + 1));
+        return Ok(after_number(c, units, named + 1));
     }
     if 512 <= units {
-        return Taken::Refused(Refusal::Limit(at));
+        return Err(Refusal::Limit(at));
     }
     append(words, heads, nexts, units, word);
     numbers[named] = units as u16;
-    Taken::Next(after_number(c, units + 1, named + 1))
+    Ok(after_number(c, units + 1, named + 1))
 }
 
 pub fn admit_unit(
@@ -80,7 +80,7 @@ pub fn admit_unit(
     heads: &mut [u16],
     nexts: &mut [u16],
     numbers: &mut [u16],
-) -> Taken
+) -> Result<Reader, Refusal>
     requires { (length ids.now ≡ 4) × (length words.old ≡ 512) × (c.units ≤ 512) × Low heads.old nexts.old × (c.named < length numbers.old) }
     ensures { (s : State) (fs bs : List ℕ) → c ≡ reader_of s
         → Holds s ids.now fs bs words.old heads.old nexts.old numbers.old
@@ -91,11 +91,11 @@ pub fn admit_unit(
         let word = word_of(shape, id, offset);
         return admit_word(c, word, at, words, heads, nexts, numbers);
     }
-    Taken::Refused(Refusal::Undeclared(at))
+    Err(Refusal::Undeclared(at))
 }
 
 // An immediate names no unit.
-pub fn admit_immediate(c: Reader, numbers: &mut [u16]) -> Taken
+pub fn admit_immediate(c: Reader, numbers: &mut [u16]) -> Result<Reader, Refusal>
     requires { c.named < length numbers.old }
     ensures { (s : State) (is fs bs ws hs ns : List ℕ) → c ≡ reader_of s → Holds s is fs bs ws hs ns numbers.old
         → Comes (next (with_number s.units no_unit s)) result (λ s'. Holds s' is fs bs ws hs ns numbers.new) }
@@ -103,5 +103,5 @@ pub fn admit_immediate(c: Reader, numbers: &mut [u16]) -> Taken
     let named = c.named;
     let units = c.units;
     numbers[named] = 65535;
-    Taken::Next(after_number(c, units, named + 1))
+    Ok(after_number(c, units, named + 1))
 }

@@ -3,7 +3,6 @@ ghost use Rattle.std.specs.Prelude.{◌≡◌};
 ghost use Rattle.records.specs.Step.{Opened, State, start, with_opened};
 ghost use Rattle.records.specs.Mirror.{pending_of, reader_of};
 
-use crate::Refusal;
 use crate::pending::{Pending, nothing_open};
 
 // The stages of the order of records.
@@ -30,13 +29,6 @@ pub struct Reader {
     pub units: usize,
     pub named: usize,
     pub now: Pending,
-}
-
-// The reader after a record, or why the file is refused there.
-#[derive(Clone, Copy)]
-pub enum Taken {
-    Next(Reader),
-    Refused(Refusal),
 }
 
 pub fn start_reading() -> Reader

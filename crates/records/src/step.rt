@@ -13,45 +13,45 @@ use crate::pending::{
     Pending, is_finished, nothing_open, open_at, operand_fits_in, with_given, with_target,
 };
 use crate::reader::{
-    AFTER_BLOCK, AT_END, AT_START, IN_ABI, IN_BLOCK, IN_STORAGES, Reader, Taken, with_now,
+    AFTER_BLOCK, AT_END, AT_START, IN_ABI, IN_BLOCK, IN_STORAGES, Reader, with_now,
 };
 use fields::bytes::u16_at;
 use fields::ranges::{abi_fits, header_fits, instruction_fits, storage_fits, terminator_fits};
 use fields::table::{end_entry_of, entry_of, least_targets, most_targets};
 
-pub fn take_header(c: Reader, tail: &[u8], at: usize) -> Taken
+pub fn take_header(c: Reader, tail: &[u8], at: usize) -> Result<Reader, Refusal>
     requires { 7 ≤ length tail.now }
     ensures { (s : State) (is fs bs ws hs ns ks : List ℕ) → c ≡ reader_of s → Holds s is fs bs ws hs ns ks
         → Comes (taken one s at (header_at tail.now)) result (λ s'. Holds s' is fs bs ws hs ns ks) }
 {
     if c.stage != AT_START {
-        return Taken::Refused(Refusal::Form(at));
+        return Err(Refusal::Form(at));
     }
     if header_fits(tail) {
         let mut next = c;
         next.stage = IN_STORAGES;
-        return Taken::Next(next);
+        return Ok(next);
     }
-    Taken::Refused(Refusal::Form(at))
+    Err(Refusal::Form(at))
 }
 
-pub fn take_storage(c: Reader, tail: &[u8], at: usize, ids: &mut [u64]) -> Taken
+pub fn take_storage(c: Reader, tail: &[u8], at: usize, ids: &mut [u64]) -> Result<Reader, Refusal>
     requires { (16 ≤ length tail.now) × (length ids.old ≡ 4) }
     ensures { (s : State) (fs bs ws hs ns ks : List ℕ) → c ≡ reader_of s → Holds s ids.old fs bs ws hs ns ks
         → Comes (taken one s at (storage (storage_in tail.now))) result (λ s'. Holds s' ids.new fs bs ws hs ns ks) }
 {
     if c.stage != IN_STORAGES {
-        return Taken::Refused(Refusal::Form(at));
+        return Err(Refusal::Form(at));
     }
     if storage_fits(tail) {
         let id = u16_at(tail, 1) as usize;
         if rows::has(ids, 0, id) {
-            return Taken::Refused(Refusal::Repeated(at));
+            return Err(Refusal::Repeated(at));
         }
         rows::insert(ids, 0, id);
-        return Taken::Next(c);
+        return Ok(c);
     }
-    Taken::Refused(Refusal::Form(at))
+    Err(Refusal::Form(at))
 }
 
 // A block or a function may be left: the blocks begin here, or the last one has its terminator.
@@ -88,7 +88,12 @@ fn after_function(c: Reader) -> Reader
     }
 }
 
-pub fn take_function(c: Reader, tail: &[u8], at: usize, table: &mut [u16]) -> Taken
+pub fn take_function(
+    c: Reader,
+    tail: &[u8],
+    at: usize,
+    table: &mut [u16],
+) -> Result<Reader, Refusal>
     requires { (2 ≤ length tail.now) × (length table.old ≡ 512) × (at ≤ 16384) × (c.named ≤ 2341) }
     ensures { (s : State) (is bs ws hs ns ks : List ℕ) → c ≡ reader_of s → Holds s is table.old bs ws hs ns ks
         → Comes (taken one s at (function (u8_at tail.now 1))) result
@@ -97,15 +102,15 @@ pub fn take_function(c: Reader, tail: &[u8], at: usize, table: &mut [u16]) -> Ta
     if function_follows(c.stage) {
         let number = tail[1] as usize;
         if is_listed(table, number) {
-            return Taken::Refused(Refusal::Repeated(at));
+            return Err(Refusal::Repeated(at));
         }
         if 64 <= c.functions {
-            return Taken::Refused(Refusal::Limit(at));
+            return Err(Refusal::Limit(at));
         }
         enter(table, number, at, c.named);
-        return Taken::Next(after_function(c));
+        return Ok(after_function(c));
     }
-    Taken::Refused(Refusal::Form(at))
+    Err(Refusal::Form(at))
 }
 
 pub fn take_abi(
@@ -117,7 +122,7 @@ pub fn take_abi(
     heads: &mut [u16],
     nexts: &mut [u16],
     numbers: &mut [u16],
-) -> Taken
+) -> Result<Reader, Refusal>
     requires { (7 ≤ length tail.now) × (length ids.now ≡ 4) × (length words.old ≡ 512) × (c.units ≤ 512) × Low heads.old nexts.old × (c.named < length numbers.old) }
     ensures { (s : State) (fs bs : List ℕ) → c ≡ reader_of s
         → Holds s ids.now fs bs words.old heads.old nexts.old numbers.old
@@ -125,7 +130,7 @@ pub fn take_abi(
         (λ s'. Holds s' ids.now fs bs words.new heads.new nexts.new numbers.new) }
 {
     if c.stage != IN_ABI {
-        return Taken::Refused(Refusal::Form(at));
+        return Err(Refusal::Form(at));
     }
     if abi_fits(tail) {
         let id = u16_at(tail, 3);
@@ -134,7 +139,7 @@ pub fn take_abi(
             c, tail[2], id, offset, at, ids, words, heads, nexts, numbers,
         );
     }
-    Taken::Refused(Refusal::Form(at))
+    Err(Refusal::Form(at))
 }
 
 // One of the first `count` blocks has this id. The loop has no early way out, so that it runs on several ids at a time.
@@ -168,7 +173,7 @@ fn after_block(c: Reader, at: usize) -> Reader
     }
 }
 
-pub fn take_block(c: Reader, tail: &[u8], at: usize, blocks: &mut [u16]) -> Taken
+pub fn take_block(c: Reader, tail: &[u8], at: usize, blocks: &mut [u16]) -> Result<Reader, Refusal>
     requires { (3 ≤ length tail.now) × (c.blocks ≤ 128) × (length blocks.old ≡ 128) }
     ensures { (s : State) (is fs ws hs ns ks : List ℕ) → c ≡ reader_of s → Holds s is fs blocks.old ws hs ns ks
         → Comes (taken one s at (block (u16_at tail.now 1))) result (λ s'. Holds s' is fs blocks.new ws hs ns ks) }
@@ -177,30 +182,30 @@ pub fn take_block(c: Reader, tail: &[u8], at: usize, blocks: &mut [u16]) -> Take
         let id = u16_at(tail, 1);
         let count = c.blocks;
         if among(blocks, count, id) {
-            return Taken::Refused(Refusal::Repeated(at));
+            return Err(Refusal::Repeated(at));
         }
         if 128 <= count {
-            return Taken::Refused(Refusal::Limit(at));
+            return Err(Refusal::Limit(at));
         }
         blocks[count] = id;
-        return Taken::Next(after_block(c, at));
+        return Ok(after_block(c, at));
     }
-    Taken::Refused(Refusal::Form(at))
+    Err(Refusal::Form(at))
 }
 
-pub fn take_instruction(c: Reader, tail: &[u8], at: usize) -> Taken
+pub fn take_instruction(c: Reader, tail: &[u8], at: usize) -> Result<Reader, Refusal>
     requires { 4 ≤ length tail.now }
     ensures { (s : State) (is fs bs ws hs ns ks : List ℕ) → c ≡ reader_of s → Holds s is fs bs ws hs ns ks
         → Comes (taken one s at (instruction_at tail.now)) result (λ s'. Holds s' is fs bs ws hs ns ks) }
 {
     if c.stage != IN_BLOCK {
-        return Taken::Refused(Refusal::Form(at));
+        return Err(Refusal::Form(at));
     }
     if instruction_fits(tail[1], tail[2], tail[3]) {
         let now = open_at(at, entry_of(tail[1]), 0, 0);
-        return Taken::Next(with_now(c, IN_BLOCK, now));
+        return Ok(with_now(c, IN_BLOCK, now));
     }
-    Taken::Refused(Refusal::Form(at))
+    Err(Refusal::Form(at))
 }
 
 pub fn take_operand(
@@ -212,7 +217,7 @@ pub fn take_operand(
     heads: &mut [u16],
     nexts: &mut [u16],
     numbers: &mut [u16],
-) -> Taken
+) -> Result<Reader, Refusal>
     requires { (7 ≤ length tail.now) × (length ids.now ≡ 4) × (length words.old ≡ 512) × (c.units ≤ 512) × Low heads.old nexts.old × (c.named < length numbers.old)
         × (c.now.seen ≤ 16) × (c.now.lacks ≤ 6) }
     ensures { (s : State) (fs bs : List ℕ) → c ≡ reader_of s → Kept s
@@ -222,7 +227,7 @@ pub fn take_operand(
 {
     let o = c.now;
     if o.targets != 0 {
-        return Taken::Refused(Refusal::Form(at));
+        return Err(Refusal::Form(at));
     }
     if operand_fits_in(o, tail) {
         let next = with_now(c, c.stage, with_given(o, tail[1]));
@@ -236,16 +241,16 @@ pub fn take_operand(
             next, shape, id, offset, at, ids, words, heads, nexts, numbers,
         );
     }
-    Taken::Refused(Refusal::Form(at))
+    Err(Refusal::Form(at))
 }
 
-pub fn take_terminator(c: Reader, tail: &[u8], at: usize) -> Taken
+pub fn take_terminator(c: Reader, tail: &[u8], at: usize) -> Result<Reader, Refusal>
     requires { 4 ≤ length tail.now }
     ensures { (s : State) (is fs bs ws hs ns ks : List ℕ) → c ≡ reader_of s → Holds s is fs bs ws hs ns ks
         → Comes (taken one s at (terminator_at tail.now)) result (λ s'. Holds s' is fs bs ws hs ns ks) }
 {
     if c.stage != IN_BLOCK {
-        return Taken::Refused(Refusal::Form(at));
+        return Err(Refusal::Form(at));
     }
     let op = tail[1];
     let sub = tail[2];
@@ -256,30 +261,30 @@ pub fn take_terminator(c: Reader, tail: &[u8], at: usize) -> Taken
             least_targets(op),
             most_targets(op),
         );
-        return Taken::Next(with_now(c, AFTER_BLOCK, now));
+        return Ok(with_now(c, AFTER_BLOCK, now));
     }
-    Taken::Refused(Refusal::Form(at))
+    Err(Refusal::Form(at))
 }
 
-pub fn take_target(c: Reader, at: usize) -> Taken
+pub fn take_target(c: Reader, at: usize) -> Result<Reader, Refusal>
     ensures { (s : State) (id : ℕ) (is fs bs ws hs ns ks : List ℕ) → c ≡ reader_of s → Holds s is fs bs ws hs ns ks
         → Comes (taken one s at (target id)) result (λ s'. Holds s' is fs bs ws hs ns ks) }
 {
     let o = c.now;
     if o.targets < o.most {
-        return Taken::Next(with_now(c, c.stage, with_target(o)));
+        return Ok(with_now(c, c.stage, with_target(o)));
     }
-    Taken::Refused(Refusal::Form(at))
+    Err(Refusal::Form(at))
 }
 
-pub fn take_end(c: Reader, at: usize) -> Taken
+pub fn take_end(c: Reader, at: usize) -> Result<Reader, Refusal>
     ensures { (s : State) (is fs bs ws hs ns ks : List ℕ) → c ≡ reader_of s → Holds s is fs bs ws hs ns ks
         → Comes (taken one s at end) result (λ s'. Holds s' is fs bs ws hs ns ks) }
 {
     if between_blocks(c.stage) {
-        return Taken::Next(with_now(c, AT_END, nothing_open()));
+        return Ok(with_now(c, AT_END, nothing_open()));
     }
-    Taken::Refused(Refusal::Form(at))
+    Err(Refusal::Form(at))
 }
 
 // The record of a kind that names no unit.
@@ -291,7 +296,7 @@ fn take_plain(
     ids: &mut [u64],
     table: &mut [u16],
     blocks: &mut [u16],
-) -> Taken
+) -> Result<Reader, Refusal>
     requires { (length_of one kind ≤ length tail.now) × (kind < 10) × (kind ≡ 3 → ⊥) × (kind ≡ 6 → ⊥)
         × (length ids.old ≡ 4) × (length table.old ≡ 512) × (length blocks.old ≡ 128) × (c.blocks ≤ 128) × (at ≤ 16384) × (c.named ≤ 2341) }
     ensures { (s : State) (ws hs ns ks : List ℕ) → c ≡ reader_of s → u8_at tail.now 0 ≡ kind
@@ -350,7 +355,7 @@ fn step_other(
     heads: &mut [u16],
     nexts: &mut [u16],
     numbers: &mut [u16],
-) -> Taken
+) -> Result<Reader, Refusal>
     requires { (length_of one kind ≤ length tail.now) × (kind < 10) × (kind ≡ 6 → ⊥) × Sane c at ids.old table.old blocks.old words.old heads.old nexts.old numbers.old }
     ensures { (s : State) → c ≡ reader_of s → Kept s → u8_at tail.now 0 ≡ kind
         → Holds s ids.old table.old blocks.old words.old heads.old nexts.old numbers.old
@@ -360,14 +365,14 @@ fn step_other(
     let o = c.now;
     if goes_on(o, kind) {
         if cuts(c.stage, kind) {
-            return Taken::Refused(Refusal::Form(c.block));
+            return Err(Refusal::Form(c.block));
         }
         if kind == 3 {
             return take_abi(c, tail, at, ids, words, heads, nexts, numbers);
         }
         return take_plain(c, kind, tail, at, ids, table, blocks);
     }
-    Taken::Refused(Refusal::Form(o.place))
+    Err(Refusal::Form(o.place))
 }
 
 // The record at the front of a tail. An operand belongs to what is open and leaves no block, so that nothing before it needs a test.
@@ -383,7 +388,7 @@ pub fn step_on(
     heads: &mut [u16],
     nexts: &mut [u16],
     numbers: &mut [u16],
-) -> Taken
+) -> Result<Reader, Refusal>
     requires { (length_of one kind ≤ length tail.now) × (kind < 10) × Sane c at ids.old table.old blocks.old words.old heads.old nexts.old numbers.old }
     ensures { (s : State) → c ≡ reader_of s → Kept s → u8_at tail.now 0 ≡ kind
         → Holds s ids.old table.old blocks.old words.old heads.old nexts.old numbers.old

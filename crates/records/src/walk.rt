@@ -6,9 +6,9 @@ ghost use Rattle.records.specs.Index.{bare, tabled};
 ghost use Rattle.records.specs.Outcome.{laid};
 ghost use Rattle.records.specs.Mirror.{Walked};
 
-use crate::reader::{AT_END, Taken, start_reading};
+use crate::Refusal;
+use crate::reader::{AT_END, start_reading};
 use crate::step::step_on;
-use crate::{Checked, Refusal};
 use fields::bytes::{length_of, tail_of};
 
 // Is the record at the front of a tail not whole, or of no kind? `len` is how long its kind is.
@@ -22,7 +22,12 @@ fn is_cut(tail: &[u8], len: usize) -> bool
 }
 
 // What the file comes to once all of it is read.
-pub fn walk(file: &[u8], words: &mut [u32], numbers: &mut [u16], table: &mut [u16]) -> Checked
+pub fn walk(
+    file: &[u8],
+    words: &mut [u32],
+    numbers: &mut [u16],
+    table: &mut [u16],
+) -> Result<usize, Refusal>
     requires { (length file.now ≤ 16384) × (words.old ≡ laid 512 [] []) × (2341 ≤ length numbers.old) × (table.old ≡ bare) }
     ensures { Walked (check one file.now) result words.new numbers.new (numbers_in one file.now) table.new (tabled one file.now) }
 {
@@ -37,9 +42,9 @@ pub fn walk(file: &[u8], words: &mut [u32], numbers: &mut [u16], table: &mut [u1
         let kind = tail[0];
         let len = length_of(kind);
         if is_cut(tail, len) {
-            return Checked::Refused(Refusal::Form(at));
+            return Err(Refusal::Form(at));
         }
-        match step_on(
+        c = step_on(
             c,
             kind,
             tail,
@@ -51,16 +56,11 @@ pub fn walk(file: &[u8], words: &mut [u32], numbers: &mut [u16], table: &mut [u1
             &mut heads,
             &mut nexts,
             numbers,
-        ) {
-            Taken::Refused(r) => return Checked::Refused(r),
-            Taken::Next(next) => {
-                c = next;
-                at += len;
-            }
-        }
+        )?;
+        at += len;
     }
     if c.stage == AT_END {
-        return Checked::Units(c.units);
+        return Ok(c.units);
     }
-    Checked::Refused(Refusal::Form(at))
+    Err(Refusal::Form(at))
 }

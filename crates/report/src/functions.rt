@@ -58,10 +58,10 @@ fn put_function<W: Write>(
 }
 
 // A function of an accepted file is never refused.
-fn passes_of(lived: Lived) -> usize {
+fn passes_of(lived: Result<usize, Refusal>) -> usize {
     match lived {
-        Lived::Passes(n) => n,
-        Lived::Refused(_) => 0,
+        Ok(n) => n,
+        Err(_) => 0,
     }
 }
 

@@ -67,18 +67,18 @@ fn write_with_analysis<W: Write>(
     at: usize,
     file: &[u8],
     units: &mut [u32; 512],
-    checked: Checked,
+    checked: Result<usize, Refusal>,
 ) -> Result<()>
     requires { at ≤ 65536 }
 {
     match checked {
-        Checked::Units(_) => {
+        Ok(_) => {
             let functions = put_functions(out, page, at, file, units)?;
             let graph = put_graph(out, page, functions, file, units)?;
             let start = room(out, page, graph, 24000)?;
             let end = put_placing(page, start, file, units, Setting::InReport);
             write_out(out, page, end)
         }
-        Checked::Refused(_) => write_out(out, page, at),
+        Err(_) => write_out(out, page, at),
     }
 }

@@ -29,6 +29,6 @@ pub fn put_placing(
             slots,
             passes,
         } => put_done(page, at, &result, placed, slots, passes, setting),
-        Placing::Refused(refusal) => put_refused(page, at, refusal, setting),
+        Err(refusal) => put_refused(page, at, refusal, setting),
     }
 }

@@ -70,14 +70,14 @@ fn put_effect<W: Write>(
     out: &mut W,
     page: &mut [u8; 65536],
     at: usize,
-    effect: Effect,
+    effect: Result<bool, Refusal>,
 ) -> Result<usize>
     requires { at ≤ 65536 }
     ensures { IfOk result (λ r. r ≤ 65536) }
 {
     match effect {
-        Effect::Yes => put_word(out, page, at, b" effect yes\n"),
-        Effect::No => put_word(out, page, at, b" effect no\n"),
-        Effect::Refused(_) => put_word(out, page, at, b" effect no\n"),
+        Ok(true) => put_word(out, page, at, b" effect yes\n"),
+        Ok(false) => put_word(out, page, at, b" effect no\n"),
+        Err(_) => put_word(out, page, at, b" effect no\n"),
     }
 }

@@ -27,10 +27,10 @@ pub fn put_graph<W: Write>(
 }
 
 // An accepted file is never refused.
-fn passes_of(graphed: Graphed) -> usize {
+fn passes_of(graphed: Result<usize, Refusal>) -> usize {
     match graphed {
-        Graphed::Passes(n) => n,
-        Graphed::Refused(_) => 0,
+        Ok(n) => n,
+        Err(_) => 0,
     }
 }
 

@@ -1,11 +1,9 @@
 -- Document 01, "The program file" (fixed codes) and "Placement" (results): the twelve placements by their codes, with the numbers a and b of each, and the
 -- regions in which they lie.
-use Rattle.std.specs.Prelude.{ℕ, eqb}
+use Rattle.std.specs.Prelude.{ℕ, eqb, Option, Some, None}
 use Rattle.fields.specs.Pick.{pick}
 use Rattle.storages.specs.declared.Placement.{Placement}
 use Rattle.storages.specs.declared.Placement.TheVariants.{Accumulator, CarryFlag, ApplicationRam, ApplicationBit, ShadowStack, ShadowStackBit, WorkRamBit, SpecialRegister, IndirectRegister, WorkRam, Flash, XRam}
-use Rattle.storages.specs.declared.Fixed.{Fixed}
-use Rattle.storages.specs.declared.Fixed.TheVariants.{Free, At}
 
 -- Codes 1 to 12, in the order of PhysicalPlacement.
 abbrev pub code_of : Placement → ℕ
@@ -53,21 +51,21 @@ b_of Flash = 0
 b_of (XRam k o) = o
 
 -- What a storage record's fixed code and its two numbers say; code 0 fixes nothing, and an accepted file has no code above 12.
-unfoldable pub fixed_at : ℕ → ℕ → ℕ → Fixed
+unfoldable pub fixed_at : ℕ → ℕ → ℕ → Option Placement
 fixed_at code a b =
-    pick (eqb code 1) (At Accumulator)
-    (pick (eqb code 2) (At CarryFlag)
-    (pick (eqb code 3) (At (ApplicationRam a))
-    (pick (eqb code 4) (At (ApplicationBit a b))
-    (pick (eqb code 5) (At (ShadowStack a))
-    (pick (eqb code 6) (At (ShadowStackBit a b))
-    (pick (eqb code 7) (At (WorkRamBit a b))
-    (pick (eqb code 8) (At (SpecialRegister a))
-    (pick (eqb code 9) (At (IndirectRegister a b))
-    (pick (eqb code 10) (At (WorkRam a))
-    (pick (eqb code 11) (At Flash)
-    (pick (eqb code 12) (At (XRam a b))
-    Free)))))))))))
+    pick (eqb code 1) (Some Accumulator)
+    (pick (eqb code 2) (Some CarryFlag)
+    (pick (eqb code 3) (Some (ApplicationRam a))
+    (pick (eqb code 4) (Some (ApplicationBit a b))
+    (pick (eqb code 5) (Some (ShadowStack a))
+    (pick (eqb code 6) (Some (ShadowStackBit a b))
+    (pick (eqb code 7) (Some (WorkRamBit a b))
+    (pick (eqb code 8) (Some (SpecialRegister a))
+    (pick (eqb code 9) (Some (IndirectRegister a b))
+    (pick (eqb code 10) (Some (WorkRam a))
+    (pick (eqb code 11) (Some Flash)
+    (pick (eqb code 12) (Some (XRam a b))
+    None)))))))))))
 
 -- The region of a placement, by its number in StorageRegion: the bit of the mask that allows it.
 abbrev pub region_of : Placement → ℕ

@@ -1,12 +1,10 @@
 -- Document 01, "The program file" (storage) and "Placement": a storage as a value, and what its kind, owner and regions let it do.
-use Rattle.std.specs.Prelude.{Bool, true, false, not, ℕ, leb, eqb}
+use Rattle.std.specs.Prelude.{Bool, true, false, not, ℕ, leb, eqb, Option, Some, None}
 use Rattle.rows.specs.Row.{bit}
 use Rattle.fields.specs.Pick.{pick, ◌and◌, ◌or◌}
 use Rattle.fields.specs.Record as R
 use Rattle.storages.specs.declared.Placement.{Placement}
 use Rattle.storages.specs.declared.Placement.TheVariants.{Accumulator, CarryFlag, ApplicationRam, ApplicationBit, ShadowStack, ShadowStackBit, WorkRamBit, SpecialRegister, IndirectRegister, WorkRam, Flash, XRam}
-use Rattle.storages.specs.declared.Fixed.{Fixed}
-use Rattle.storages.specs.declared.Fixed.TheVariants.{Free, At}
 use Rattle.storages.specs.declared.Storage.{Storage}
 use Rattle.storages.specs.Placement.{fixed_at}
 
@@ -58,9 +56,9 @@ stored x =
 unfoldable pub allows : Storage → ℕ → Bool
 allows s r = bit s.regions r
 
-abbrev pub is_free : Fixed → Bool
-is_free Free = true
-is_free (At p) = false
+abbrev pub is_free : Option Placement → Bool
+is_free None = true
+is_free (Some p) = false
 
 -- Bits and carries take one bit, bytes of either kind whole bytes.
 unfoldable pub is_bit : ℕ → Bool

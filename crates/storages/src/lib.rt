@@ -28,14 +28,7 @@ pub enum Placement {
     XRam { bank: u16, offset: u16 },
 }
 
-// A storage is free to be placed, or fixed at a place.
-#[derive(Clone, Copy)]
-pub enum Fixed {
-    Free,
-    At(Placement),
-}
-
-// A storage record.
+// A storage record. One without a fixed place is free to be placed.
 #[derive(Clone, Copy)]
 pub struct Storage {
     pub id: u16,
@@ -44,7 +37,7 @@ pub struct Storage {
     pub len: u16,
     pub regions: u16,
     pub direct: bool,
-    pub fixed: Fixed,
+    pub fixed: Option<Placement>,
 }
 
 // The two memories that are shared out: application RAM, and work RAM, in which shadow and work places both lie.
@@ -157,26 +150,26 @@ pub fn region_of(p: Placement) -> u16
 }
 
 // What a fixed code and its numbers say.
-pub fn fixed_at(code: u8, a: u16, b: u16) -> Fixed
+pub fn fixed_at(code: u8, a: u16, b: u16) -> Option<Placement>
     ensures { result ≡ fixed_at code a b }
 {
     match code {
-        1 => Fixed::At(Placement::Accumulator),
-        2 => Fixed::At(Placement::CarryFlag),
-        3 => Fixed::At(Placement::ApplicationRam { offset: a }),
-        4 => Fixed::At(Placement::ApplicationBit { offset: a, bit: b }),
-        5 => Fixed::At(Placement::ShadowStack { offset: a }),
-        6 => Fixed::At(Placement::ShadowStackBit { offset: a, bit: b }),
-        7 => Fixed::At(Placement::WorkRamBit { offset: a, bit: b }),
-        8 => Fixed::At(Placement::SpecialRegister(a)),
-        9 => Fixed::At(Placement::IndirectRegister {
+        1 => Some(Placement::Accumulator),
+        2 => Some(Placement::CarryFlag),
+        3 => Some(Placement::ApplicationRam { offset: a }),
+        4 => Some(Placement::ApplicationBit { offset: a, bit: b }),
+        5 => Some(Placement::ShadowStack { offset: a }),
+        6 => Some(Placement::ShadowStackBit { offset: a, bit: b }),
+        7 => Some(Placement::WorkRamBit { offset: a, bit: b }),
+        8 => Some(Placement::SpecialRegister(a)),
+        9 => Some(Placement::IndirectRegister {
             bank: a,
             register: b,
         }),
-        10 => Fixed::At(Placement::WorkRam { offset: a }),
-        11 => Fixed::At(Placement::Flash),
-        12 => Fixed::At(Placement::XRam { bank: a, offset: b }),
-        _ => Fixed::Free,
+        10 => Some(Placement::WorkRam { offset: a }),
+        11 => Some(Placement::Flash),
+        12 => Some(Placement::XRam { bank: a, offset: b }),
+        _ => None,
     }
 }
 
@@ -262,28 +255,11 @@ pub fn takes_bit(kind: u8) -> bool
     kind == 3
 }
 
-// Is a storage free to be placed?
-fn is_unfixed(fixed: Fixed) -> bool
-    ensures { result ≡ is_free fixed }
-{
-    match fixed {
-        Fixed::Free => true,
-        Fixed::At(_) => false,
-    }
-}
-
 // May a storage share a slot?
 pub fn tries_slots(s: Storage) -> bool
     ensures { result ≡ tries s }
 {
-    let fixed = s.fixed;
-    if !is_unfixed(fixed) {
-        return false;
-    }
-    if s.owner == 65535 {
-        return false;
-    }
-    s.kind != 3
+    s.fixed.is_none() && s.owner != 65535 && s.kind != 3
 }
 
 // Does a code hold one bit?

@@ -1,5 +1,6 @@
 -- What is noted of one storage more. The code keeps ids, slot numbers and slots at the front of arrays and the result records at the front of a buffer; a
 -- store right behind the front puts one element at the end of the list that stands there, and the rest of the buffer stays clear.
+use Rattle.std.specs.Prelude.{Option, Some, None, Result, Ok}
 use mathlib.Core.Path.{◌≡◌, refl, sym, ap, ◌∙◌, subst}
 use mathlib.Core.Bool.{Bool, true, false}
 use mathlib.Core.List.{List, [], ◌∷◌, ◌++◌, map, map-append, append-nil}
@@ -18,11 +19,8 @@ use Rattle.storages.specs.declared.Room.{Room}
 use Rattle.storages.specs.Placement.{code_of, a_of, b_of}
 use Rattle.storages.specs.Storage.{tries}
 use Rattle.storages.specs.Room.{room}
-use Rattle.maps.specs.declared.Found.TheVariants.{Nothing, At}
 use Rattle.slots.specs.declared.Slot.{Slot}
 use Rattle.slots.specs.Slots.{no_slot, opened}
-use Rattle.turns.specs.declared.turn.Verdict.{Verdict}
-use Rattle.turns.specs.declared.turn.Verdict.TheVariants as verdict
 use Rattle.places.specs.Memory.{Maps, reserve}
 use Rattle.places.specs.Place.{Opened, no_opened, joined, Placed, State, Outcome, done, placed_at, join_slot, record_at, record_of, records_of}
 use Rattle.turns.specs.Held.{slot_number, key_by, key_of, slot_key, keys_of, KinLinked, linked_at, Numbered, Kept, Held, list_after, count_after, TurnedBy}
@@ -30,6 +28,7 @@ use Rattle.turns.proofs.Joining.{slot_at}
 use Rattle.turns.proofs.Numbering.{AllKeyed, join_numbered, join_keyed, take_numbered, take_keyed}
 use Rattle.turns.proofs.Turns.{records_length, records_snoc}
 use Rattle.turns.proofs.Linking.{linked_more}
+use Rattle.records.specs.declared.Refusal.{Refusal}
 
 -- ---- A result record
 
@@ -135,11 +134,11 @@ module _ (x : State) (list : List Slot) (n : ℕ) (ids kin numbers : List ℕ) (
     StandFor l m ss = (m ≡ length ss) × (take m l ≡ map (λ (o : Opened). o.slot) ss) × (m ≤ i + 1)
 
     opened_for : n < length list
-        → StandFor (list_after list n s (pick (tries s) (verdict.Opened p) verdict.Placed)) (count_after n (pick (tries s) (verdict.Opened p) verdict.Placed)) (pick (tries s) (x.slots ++ (own ∷ [])) x.slots)
+        → StandFor (list_after list n s (pick (tries s) (Ok (Some p)) (Ok None))) (count_after n (pick (tries s) (Ok (Some p)) (Ok None))) (pick (tries s) (x.slots ++ (own ∷ [])) x.slots)
     unfolding pick
     opened_for l = go (tries s)
       where
-        go : (b : Bool) → StandFor (list_after list n s (pick b (verdict.Opened p) verdict.Placed)) (count_after n (pick b (verdict.Opened p) verdict.Placed)) (pick b (x.slots ++ (own ∷ [])) x.slots)
+        go : (b : Bool) → StandFor (list_after list n s (pick b (Ok (Some p)) (Ok None))) (count_after n (pick b (Ok (Some p)) (Ok None))) (pick b (x.slots ++ (own ∷ [])) x.slots)
         go true = (
           omega (arith, h.many, length-append x.slots (own ∷ [])),
           front_more list _ n (opened s p) l h.slots_are ∙ sym (map-append (λ (o : Opened). o.slot) x.slots (own ∷ [])),
@@ -147,11 +146,11 @@ module _ (x : State) (list : List Slot) (n : ℕ) (ids kin numbers : List ℕ) (
         )
         go false = (h.many, h.slots_are, omega (arith, h.few))
 
-    number_for : (number : ℕ) → number ≡ pick (tries s) n 256 → number ≡ slot_number (pick (tries s) (At (length x.slots)) Nothing)
+    number_for : (number : ℕ) → number ≡ pick (tries s) n 256 → number ≡ slot_number (pick (tries s) (Some (length x.slots)) None)
     unfolding pick
     number_for number e = e ∙ go (tries s)
       where
-        go : (b : Bool) → pick b n 256 ≡ slot_number (pick b (At (length x.slots)) Nothing)
+        go : (b : Bool) → pick b n 256 ≡ slot_number (pick b (Some (length x.slots)) None)
         go true = h.many
         go false = refl
 
@@ -167,7 +166,7 @@ abbrev taken : Storage → State → Placement → State
 taken s x p = record {
   maps = reserve (room s.len p) x.maps;
   slots = pick (tries s) (x.slots ++ (record { slot = opened s p; members = s.id ∷ [] } ∷ [])) x.slots;
-  placed = placed_at s p (pick (tries s) (At (length x.slots)) Nothing) x.placed;
+  placed = placed_at s p (pick (tries s) (Some (length x.slots)) None) x.placed;
 }
 
 module _ (s : Storage) (x : State) (app wrk : List ℕ) (list : List Slot) (n : ℕ) (ids kin numbers out : List ℕ) (i : ℕ) (h : Held x app wrk list n ids kin numbers out i)
@@ -181,7 +180,7 @@ module _ (s : Storage) (x : State) (app wrk : List ℕ) (list : List Slot) (n : 
       let k = h.kept in
       let t : Opened = get_or x.slots number no_opened in
       let there : p ≡ t.slot.placement = e ∙ ap (λ (o : Slot). o.placement) (slot_there x list n ids kin numbers i k number l) in
-      let y : Placed = record { what = s; spot = t.slot.placement; slot = At number } in
+      let y : Placed = record { what = s; spot = t.slot.placement; slot = Some number } in
       let low_number : number < length x.slots = omega (arith, k.many) in
       record {
         app_is = h.app_is;
@@ -198,10 +197,10 @@ module _ (s : Storage) (x : State) (app wrk : List ℕ) (list : List Slot) (n : 
   -- The storage takes a place of its own, and may open a slot there.
   module _ (app' wrk' : List ℕ) (r : Room) (ll : length list ≡ 256) (e : number ≡ pick (tries s) n 256) (er : r ≡ room s.len p)
       (em : record { app = app'; wrk = wrk' } ≡ reserve r (record { app = app; wrk = wrk })) where
-    taken_held : Held (taken s x p) app' wrk' (list_after list n s (pick (tries s) (verdict.Opened p) verdict.Placed)) (count_after n (pick (tries s) (verdict.Opened p) verdict.Placed)) ids' kin' numbers' out' (i + 1)
+    taken_held : Held (taken s x p) app' wrk' (list_after list n s (pick (tries s) (Ok (Some p)) (Ok None))) (count_after n (pick (tries s) (Ok (Some p)) (Ok None))) ids' kin' numbers' out' (i + 1)
     taken_held =
         let k = h.kept in
-        let y : Placed = record { what = s; spot = p; slot = pick (tries s) (At (length x.slots)) Nothing } in
+        let y : Placed = record { what = s; spot = p; slot = pick (tries s) (Some (length x.slots)) None } in
         let now : record { app = app; wrk = wrk } ≡ x.maps = (λ j. record { app = h.app_is j; wrk = h.wrk_is j }) in
         let maps : record { app = app'; wrk = wrk' } ≡ reserve (room s.len p) x.maps = em ∙ ap (λ (q : Room). reserve q (record { app = app; wrk = wrk })) er ∙ ap (reserve (room s.len p)) now in
         let o = opened_for x list n ids kin numbers i k s p (omega (arith, k.few)) in
@@ -210,20 +209,20 @@ module _ (s : Storage) (x : State) (app wrk : List ℕ) (list : List Slot) (n : 
           wrk_is = ap (λ (m : Maps). m.wrk) maps;
           kept =
               rw (ei, ew, en)
-              (kept_more x list n ids kin numbers i k li lk ln room_left (reserve (room s.len p) x.maps) _ y (list_after list n s (pick (tries s) (verdict.Opened p) verdict.Placed)) (count_after n (pick (tries s) (verdict.Opened p) verdict.Placed)) number
+              (kept_more x list n ids kin numbers i k li lk ln room_left (reserve (room s.len p) x.maps) _ y (list_after list n s (pick (tries s) (Ok (Some p)) (Ok None))) (count_after n (pick (tries s) (Ok (Some p)) (Ok None))) number
               (number_for x list n ids kin numbers i k s p number e) low (take_numbered s x k.numbered p (reserve (room s.len p) x.maps) (tries s))
               (take_keyed s x k.numbered p (tries s) k.keyed) o.0 o.1 o.2);
           out_is = eo ∙ records_more out x.placed y i k.count room_left h.out_is;
         }
 
     -- The verdict tells whether it did.
-    pub taken_turned : (o : Outcome) (v : Verdict) → o ≡ done (taken s x p) → v ≡ pick (tries s) (verdict.Opened p) verdict.Placed
+    pub taken_turned : (o : Outcome) (v : Result (Option Placement) Refusal) → o ≡ done (taken s x p) → v ≡ pick (tries s) (Ok (Some p)) (Ok None)
         → TurnedBy o v app' wrk' (list_after list n s v) (count_after n v) ids' kin' numbers' out' (i + 1)
     unfolding pick
     taken_turned o v q ev =
-        subst (λ (u : Verdict). TurnedBy o u app' wrk' (list_after list n s u) (count_after n u) ids' kin' numbers' out' (i + 1)) (sym ev) (go (tries s) taken_held)
+        subst (λ (u : Result (Option Placement) Refusal). TurnedBy o u app' wrk' (list_after list n s u) (count_after n u) ids' kin' numbers' out' (i + 1)) (sym ev) (go (tries s) taken_held)
       where
-        go : (b : Bool) → Held (taken s x p) app' wrk' (list_after list n s (pick b (verdict.Opened p) verdict.Placed)) (count_after n (pick b (verdict.Opened p) verdict.Placed)) ids' kin' numbers' out' (i + 1)
-            → TurnedBy o (pick b (verdict.Opened p) verdict.Placed) app' wrk' (list_after list n s (pick b (verdict.Opened p) verdict.Placed)) (count_after n (pick b (verdict.Opened p) verdict.Placed)) ids' kin' numbers' out' (i + 1)
+        go : (b : Bool) → Held (taken s x p) app' wrk' (list_after list n s (pick b (Ok (Some p)) (Ok None))) (count_after n (pick b (Ok (Some p)) (Ok None))) ids' kin' numbers' out' (i + 1)
+            → TurnedBy o (pick b (Ok (Some p)) (Ok None)) app' wrk' (list_after list n s (pick b (Ok (Some p)) (Ok None))) (count_after n (pick b (Ok (Some p)) (Ok None))) ids' kin' numbers' out' (i + 1)
         go true t = (taken s x p, q, t)
         go false t = (taken s x p, q, t)

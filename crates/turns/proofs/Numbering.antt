@@ -1,5 +1,6 @@
 -- The members of a slot are the storages that carry its number, in file order: a storage that joins or opens a slot is put at the end of both lists, and
 -- every other slot keeps its members. So code may keep the number with each storage and no lists of members.
+use Rattle.std.specs.Prelude.{Option, Some, None, Result, Ok, Err}
 use mathlib.Core.Path.{◌≡◌, refl, sym, ap, ◌∙◌}
 use mathlib.Core.Bool.{Bool, true, false}
 use mathlib.Core.List.{List, [], ◌∷◌, ◌++◌, append-nil}
@@ -16,17 +17,14 @@ use Rattle.storages.specs.declared.Storage.{Storage}
 use Rattle.storages.specs.Storage.{tries}
 use Rattle.storages.specs.Room.{room}
 use Rattle.units.specs.Sets.{any}
-use Rattle.maps.specs.declared.Found.{Found}
-use Rattle.maps.specs.declared.Found.TheVariants.{Nothing, At}
 use Rattle.slots.specs.Slots.{opened}
-use Rattle.places.specs.declared.choose.Chosen.{Chosen}
-use Rattle.places.specs.declared.choose.Chosen.TheVariants.{Spot, Refused}
 use Rattle.places.specs.Memory.{Maps, reserve}
 use Rattle.places.specs.Place.{Given, Opened, no_opened, joined, slot_for, choose, Placed, State, placed_at, take_room, join_slot, step_by, step, start}
 use Rattle.turns.specs.Held.{in_slot, ids_in, SlotBelow, Numbered, key_of, slot_key, Keyed}
 use Rattle.places.proofs.Tests.{all_snoc, all_map, all_map₂}
 use Rattle.turns.proofs.Joining.{slot_at, SlotFor, slot_for_lem}
 use Rattle.turns.proofs.Turns.{After}
+use Rattle.records.specs.declared.Refusal.{Refusal}
 
 -- ---- The list of one slot
 
@@ -54,9 +52,9 @@ unfolding ids_in pick
 ids_none n [] h = refl
 ids_none n (y ∷ ys) h = go y.slot h.0 (ids_none n ys h.1)
   where
-    go : (r : Found) → SlotBelow n r → ids_in n ys ≡ [] → pick (in_slot n r) (y.what.id ∷ ids_in n ys) (ids_in n ys) ≡ []
-    go Nothing l e = e
-    go (At k) l e = ap {B = List ℕ} (λ b. pick b (y.what.id ∷ ids_in n ys) (ids_in n ys)) (ne_eqb k n (omega arith)) ∙ e
+    go : (r : Option ℕ) → SlotBelow n r → ids_in n ys ≡ [] → pick (in_slot n r) (y.what.id ∷ ids_in n ys) (ids_in n ys) ≡ []
+    go None l e = e
+    go (Some k) l e = ap {B = List ℕ} (λ b. pick b (y.what.id ∷ ids_in n ys) (ids_in n ys)) (ne_eqb k n (omega arith)) ∙ e
 
 -- A test over the members of a slot is one over the storages placed so far.
 pub any_ids : (p : ℕ → Bool) (j : ℕ) (ys : List Placed) → any p (ids_in j ys) ≡ any (λ y. in_slot j y.slot and p y.what.id) ys
@@ -74,9 +72,9 @@ any_ids p j (y ∷ ys) = go (in_slot j y.slot) (any_ids p j ys)
 below_more : (n m : ℕ) → n ≤ m → (y : Placed) → SlotBelow n y.slot → SlotBelow m y.slot
 below_more n m l y = go y.slot
   where
-    go : (r : Found) → SlotBelow n r → SlotBelow m r
-    go Nothing h = tt
-    go (At k) h = omega arith
+    go : (r : Option ℕ) → SlotBelow n r → SlotBelow m r
+    go None h = tt
+    go (Some k) h = omega arith
 
 abbrev pub AllKeyed : List Opened → List Placed → Type 0
 AllKeyed ts ys = All (λ (y : Placed). Keyed ts y y.slot) ys
@@ -86,9 +84,9 @@ keyed_still : (ts us : List Opened) → ((k : ℕ) → k < length ts → slot_ke
     → Keyed ts y y.slot → Keyed us y y.slot
 keyed_still ts us e y = go y.slot
   where
-    go : (r : Found) → SlotBelow (length ts) r → Keyed ts y r → Keyed us y r
-    go Nothing l h = tt
-    go (At k) l h = h ∙ sym (e k l)
+    go : (r : Option ℕ) → SlotBelow (length ts) r → Keyed ts y r → Keyed us y r
+    go None l h = tt
+    go (Some k) l h = h ∙ sym (e k l)
 
 module _ (s : Storage) (x : State) (h : Numbered x) where
   -- Numbers that lie below the count of slots stay below it when slots are added.
@@ -108,7 +106,7 @@ module _ (s : Storage) (x : State) (h : Numbered x) where
     after = set x.slots k (joined s.id (slot_at x.slots k))
 
     abbrev member : Placed
-    member = record { what = s; spot = (slot_at x.slots k).slot.placement; slot = At k }
+    member = record { what = s; spot = (slot_at x.slots k).slot.placement; slot = Some k }
 
     joins_members : (j : ℕ) → j < length x.slots → (slot_at after j).members ≡ ids_in j (x.placed ++ (member ∷ []))
     joins_members j b = go (ℕ_discrete j k)
@@ -152,7 +150,7 @@ module _ (s : Storage) (x : State) (h : Numbered x) where
     own = record { slot = opened s p; members = s.id ∷ [] }
 
     abbrev first : Placed
-    first = record { what = s; spot = p; slot = At (length x.slots) }
+    first = record { what = s; spot = p; slot = Some (length x.slots) }
 
     opens_members : (j : ℕ) → j < length x.slots + 1 → (slot_at (x.slots ++ (own ∷ [])) j).members ≡ ids_in j (x.placed ++ (first ∷ []))
     opens_members j b = go (dec_lt j (length x.slots))
@@ -174,13 +172,13 @@ module _ (s : Storage) (x : State) (h : Numbered x) where
         go (no l) = let e : j ≡ length x.slots = omega arith in rw (e, get_or-append_seam x.slots own [] no_opened) (omega arith)
 
     pub take_numbered : (m : Maps) (t : Bool)
-        → Numbered (record { maps = m; slots = pick t (x.slots ++ (own ∷ [])) x.slots; placed = placed_at s p (pick t (At (length x.slots)) Nothing) x.placed })
+        → Numbered (record { maps = m; slots = pick t (x.slots ++ (own ∷ [])) x.slots; placed = placed_at s p (pick t (Some (length x.slots)) None) x.placed })
     unfolding pick
     take_numbered m false =
         record {
-          members = λ j l. h.members j l ∙ sym (ids_other j x.placed (record { what = s; spot = p; slot = Nothing }) refl);
+          members = λ j l. h.members j l ∙ sym (ids_other j x.placed (record { what = s; spot = p; slot = None }) refl);
           filled = h.filled;
-          numbers = numbers_snoc (length x.slots) (record { what = s; spot = p; slot = Nothing }) (omega arith) tt;
+          numbers = numbers_snoc (length x.slots) (record { what = s; spot = p; slot = None }) (omega arith) tt;
         }
     take_numbered m true = let more : length (x.slots ++ (own ∷ [])) ≡ length x.slots + 1 = length-append x.slots (own ∷ []) in
         record {
@@ -190,9 +188,9 @@ module _ (s : Storage) (x : State) (h : Numbered x) where
         }
 
     pub take_keyed : (t : Bool) → AllKeyed x.slots x.placed
-        → AllKeyed (pick t (x.slots ++ (own ∷ [])) x.slots) (placed_at s p (pick t (At (length x.slots)) Nothing) x.placed)
+        → AllKeyed (pick t (x.slots ++ (own ∷ [])) x.slots) (placed_at s p (pick t (Some (length x.slots)) None) x.placed)
     unfolding pick
-    take_keyed false = keyed_snoc x.slots (record { what = s; spot = p; slot = Nothing }) (λ j b. refl) tt
+    take_keyed false = keyed_snoc x.slots (record { what = s; spot = p; slot = None }) (λ j b. refl) tt
     take_keyed true =
         keyed_snoc (x.slots ++ (own ∷ [])) first (λ j b. ap (λ (t : Opened). slot_key t.slot) (get_or-append x.slots (own ∷ []) no_opened j b))
         (sym (ap (λ (t : Opened). slot_key t.slot) (get_or-append_seam x.slots own [] no_opened)))
@@ -203,13 +201,13 @@ pub step_numbered : (g : Given) (s : Storage) (x : State) → Numbered x → Aft
 unfolding step
 step_numbered g s x h = by (slot_for g s x.slots) (slot_for_lem g s x.slots)
   where
-    taken : (c : Chosen) → After Numbered (take_room s x c)
-    taken (Refused r) = tt
-    taken (Spot p) = take_numbered s x h p (reserve (room s.len p) x.maps) (tries s)
+    taken : (c : Result Placement Refusal) → After Numbered (take_room s x c)
+    taken (Err r) = tt
+    taken (Ok p) = take_numbered s x h p (reserve (room s.len p) x.maps) (tries s)
 
-    by : (r : Found) → SlotFor g s x.slots r → After Numbered (step_by g s x r)
-    by (At k) q = join_numbered s x h k q.1
-    by Nothing q = taken (choose g s x.maps)
+    by : (r : Option ℕ) → SlotFor g s x.slots r → After Numbered (step_by g s x r)
+    by (Some k) q = join_numbered s x h k q.1
+    by None q = taken (choose g s x.maps)
 
 pub start_numbered : (a f w : ℕ) → Numbered (start a f w)
 start_numbered a f w = record { members = λ j l. absurd (not-suc-le-zero l); filled = λ j l. absurd (not-suc-le-zero l); numbers = tt }

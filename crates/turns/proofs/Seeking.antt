@@ -1,5 +1,6 @@
 -- The slot that code finds is the slot that the storage joins. A slot that suits the storage has members of its key only, and at least one; its number is left
 -- where none meets the storage, and stands in the row of partners where one is its copy; so the walk tests what `fits` tests, slot by slot.
+use Rattle.std.specs.Prelude.{Option, Some, None}
 use mathlib.Core.Path.{◌≡◌, refl, sym, ap, ap₂, ◌∙◌}
 use mathlib.Core.Bool.{Bool, true, false, not, ◌&&◌}
 use mathlib.Core.List.{List, [], ◌∷◌, map}
@@ -17,8 +18,6 @@ use Rattle.fields.specs.Pick.{pick, pick_yes, pick_no, ◌and◌, ◌or◌, All}
 use Rattle.storages.specs.declared.Storage.{Storage}
 use Rattle.storages.specs.Storage.{tries}
 use Rattle.units.specs.Sets.{any}
-use Rattle.maps.specs.declared.Found.{Found}
-use Rattle.maps.specs.declared.Found.TheVariants.{Nothing, At}
 use Rattle.slots.specs.declared.Slot.{Slot}
 use Rattle.slots.specs.Slots.{no_slot, suits, passes, first_of}
 use Rattle.slots.proofs.Laws.{first_is, first_none}
@@ -59,16 +58,16 @@ module _ (p : ℕ → Bool) (b k id key number : ℕ) (ids keys numbers : List �
       ∙ or_swap (eqb (get_or keys n 0) b and (eqb (get_or numbers n 0) k and p (get_or ids n 0))) (eqb key b and (eqb number k and p id)) (any_in p b k ids keys numbers n)
 
 -- The number of a storage that is in no slot is not k.
-number_is : (k : ℕ) → k < 256 → (r : Found) → eqb (slot_number r) k ≡ in_slot k r
-number_is k l Nothing = ne_eqb 256 k (omega arith)
-number_is k l (At j) = refl
+number_is : (k : ℕ) → k < 256 → (r : Option ℕ) → eqb (slot_number r) k ≡ in_slot k r
+number_is k l None = ne_eqb 256 k (omega arith)
+number_is k l (Some j) = refl
 
 -- A slot of this key has storages of this key only, so that a test of the key leaves none of them out.
 module _ (p : ℕ → Bool) (ts : List Opened) (key k : ℕ) (own : slot_key (slot_at ts k).slot ≡ key) where
-  own_only : (y : Placed) (b : Bool) (r : Found) → Keyed ts y r → (eqb (key_of y.what) key and (in_slot k r and b)) ≡ (in_slot k r and b)
+  own_only : (y : Placed) (b : Bool) (r : Option ℕ) → Keyed ts y r → (eqb (key_of y.what) key and (in_slot k r and b)) ≡ (in_slot k r and b)
   unfolding pick
-  own_only y b Nothing h = and_false (eqb (key_of y.what) key)
-  own_only y b (At j) h = go (eqb j k) refl
+  own_only y b None h = and_false (eqb (key_of y.what) key)
+  own_only y b (Some j) h = go (eqb j k) refl
     where
       go : (t : Bool) → eqb j k ≡ t → (eqb (key_of y.what) key and (t and b)) ≡ (t and b)
       go false e = and_false (eqb (key_of y.what) key)
@@ -105,9 +104,9 @@ first_of_slots : (p : ℕ → Slot → Bool) (q : Opened → Bool) (list : List 
     → ((k : ℕ) → k < n → p k (get_or list k no_slot) ≡ q (slot_at ts k)) → first_of p list n n ≡ slot_in n (first_slot q ts)
 first_of_slots p q list ts n e same = go (first_slot q ts) (first_slot_lem q ts)
   where
-    go : (r : Found) → FirstSlot q ts r → first_of p list n n ≡ slot_in n r
-    go Nothing none = first_none p list n (λ j l. same j l ∙ T_false (q (slot_at ts j)) (none j (omega arith)))
-    go (At k) h =
+    go : (r : Option ℕ) → FirstSlot q ts r → first_of p list n n ≡ slot_in n r
+    go None none = first_none p list n (λ j l. same j l ∙ T_false (q (slot_at ts j)) (none j (omega arith)))
+    go (Some k) h =
         let l : k < n = omega (arith, h.0) in
         first_is p list n k l (same k l ∙ T_true (q (slot_at ts k)) h.1) (λ j b. same j (omega arith) ∙ T_false (q (slot_at ts j)) (h.2 j b))
 
@@ -212,9 +211,9 @@ module _ (g : Given) (s : Storage) (x : State) (list : List Slot) (n : ℕ) (ids
       unfolding slot_for pick
       seek_copied l = rw t (go (first_slot (fits_copied g s) x.slots) (e ∙ copied_found))
         where
-          go : (r : Found) → first ≡ slot_in n r → first ≡ slot_in n (or_else r (first_slot (fits g s) x.slots))
-          go Nothing q = absurd (omega arith)
-          go (At k) q = q
+          go : (r : Option ℕ) → first ≡ slot_in n r → first ≡ slot_in n (or_else r (first_slot (fits g s) x.slots))
+          go None q = absurd (omega arith)
+          go (Some k) q = q
 
       -- None was found: the first that fits is taken.
       pub seek_fitting : n ≤ first → (r : ℕ) → r ≡ first_of (passes s free free) list n n
@@ -222,10 +221,10 @@ module _ (g : Given) (s : Storage) (x : State) (list : List Slot) (n : ℕ) (ids
       unfolding slot_for pick
       seek_fitting l r f = rw t (go (first_slot (fits_copied g s) x.slots) (first_slot_lem (fits_copied g s) x.slots) (e ∙ copied_found))
         where
-          go : (o : Found) → FirstSlot (fits_copied g s) x.slots o → first ≡ slot_in n o
+          go : (o : Option ℕ) → FirstSlot (fits_copied g s) x.slots o → first ≡ slot_in n o
               → r ≡ slot_in n (or_else o (first_slot (fits g s) x.slots))
-          go Nothing h q = f ∙ fitting_found
-          go (At k) h q = absurd (omega (arith, h.0, kept.many))
+          go None h q = f ∙ fitting_found
+          go (Some k) h q = absurd (omega (arith, h.0, kept.many))
 
     -- No slot is left: none fits.
     pub seek_closed : tries s ≡ true → not (same_row free (replicate 4 0)) ≡ false → n ≡ slot_in n (slot_for g s x.slots)

@@ -1,5 +1,6 @@
 -- One storage's turn. What the code found of its slot and of its place is what the step finds, since the words stand for the state; so the state that the
 -- step comes to is the one that the words stand for afterwards.
+use Rattle.std.specs.Prelude.{Option, Some, None, Result, Ok}
 use mathlib.Core.Path.{◌≡◌, refl, sym, ap, ◌∙◌, subst}
 use mathlib.Core.Bool.{false}
 use mathlib.Core.List.{List}
@@ -9,10 +10,6 @@ use lib.ListN.{length}
 use Rattle.storages.specs.declared.Placement.{Placement}
 use Rattle.storages.specs.declared.Storage.{Storage}
 use Rattle.storages.specs.Room.{room}
-use Rattle.maps.specs.declared.Found.{Found}
-use Rattle.maps.specs.declared.Found.TheVariants.{Nothing, At}
-use Rattle.places.specs.declared.choose.Chosen.{Chosen}
-use Rattle.places.specs.declared.choose.Chosen.TheVariants.{Spot}
 use Rattle.places.specs.Memory.{Maps}
 use Rattle.places.specs.Legal.{Inside, FixedSmall}
 use Rattle.places.specs.Place.{Given, fits, choose, State, done, take_room, join_slot, step_by, slot_for, step}
@@ -20,6 +17,7 @@ use Rattle.turns.specs.Held.{key_of, slot_key, slot_in}
 use Rattle.turns.proofs.Joining.{slot_at, SlotFor, slot_for_lem, suits_key}
 use Rattle.places.proofs.Tests.{and_l}
 use Rattle.places.proofs.Choosing.{Good, choose_inside}
+use Rattle.records.specs.declared.Refusal.{Refusal}
 
 -- ---- A place of its own
 
@@ -28,14 +26,14 @@ module _ (s : Storage) (app wrk : List ℕ) where
   words = record { app = app; wrk = wrk }
 
   -- What was chosen from the words lies inside them.
-  pub chosen_inside : (r : Chosen) (p : Placement) → FixedSmall s.len s.fixed → ((g : Given) → g.lo ≡ 0 → g.hi ≡ length app → r ≡ choose g s words) → r ≡ Spot p
+  pub chosen_inside : (r : Result Placement Refusal) (p : Placement) → FixedSmall s.len s.fixed → ((g : Given) → g.lo ≡ 0 → g.hi ≡ length app → r ≡ choose g s words) → r ≡ Ok p
       → Inside (length app) (length wrk) (room s.len p)
   chosen_inside r p b f e =
       let g : Given = record { meets = λ i j. false; copies = λ i j. false; lo = 0; hi = length app } in
       subst (Good (λ q. Inside (length app) (length wrk) (room s.len q))) (sym (f g refl refl) ∙ e) (choose_inside g s words (omega arith) b)
 
   -- What was chosen from the words is what the state's maps give.
-  pub chosen_is : (g : Given) (x : State) (c d : Chosen) → app ≡ x.maps.app → wrk ≡ x.maps.wrk → c ≡ choose g s words → c ≡ d → choose g s x.maps ≡ d
+  pub chosen_is : (g : Given) (x : State) (c d : Result Placement Refusal) → app ≡ x.maps.app → wrk ≡ x.maps.wrk → c ≡ choose g s words → c ≡ d → choose g s x.maps ≡ d
   chosen_is g x c d a w e f = ap (choose g s) (λ j. record { app = sym a j; wrk = sym w j }) ∙ sym e ∙ f
 
 -- ---- The slot that was looked for
@@ -45,22 +43,22 @@ module _ (g : Given) (s : Storage) (x : State) (n k : ℕ) (many : n ≡ length 
   unfolding step
   joins l = go (slot_for g s x.slots) e
     where
-      go : (r : Found) → k ≡ slot_in n r → step_by g s x r ≡ done (join_slot s x k)
-      go (At j) q = ap (λ (m : ℕ). done (join_slot s x m)) (sym q)
-      go Nothing q = absurd (omega arith)
+      go : (r : Option ℕ) → k ≡ slot_in n r → step_by g s x r ≡ done (join_slot s x k)
+      go (Some j) q = ap (λ (m : ℕ). done (join_slot s x m)) (sym q)
+      go None q = absurd (omega arith)
 
   pub joins_key : k < n → slot_key (slot_at x.slots k).slot ≡ key_of s
   unfolding fits
   joins_key l = go (slot_for g s x.slots) (slot_for_lem g s x.slots) e
     where
-      go : (r : Found) → SlotFor g s x.slots r → k ≡ slot_in n r → slot_key (slot_at x.slots k).slot ≡ key_of s
-      go (At j) b q = subst (λ (m : ℕ). slot_key (slot_at x.slots m).slot ≡ key_of s) (sym q) (suits_key s (slot_at x.slots j).slot (and_l _ _ b.2))
-      go Nothing b q = absurd (omega arith)
+      go : (r : Option ℕ) → SlotFor g s x.slots r → k ≡ slot_in n r → slot_key (slot_at x.slots k).slot ≡ key_of s
+      go (Some j) b q = subst (λ (m : ℕ). slot_key (slot_at x.slots m).slot ≡ key_of s) (sym q) (suits_key s (slot_at x.slots j).slot (and_l _ _ b.2))
+      go None b q = absurd (omega arith)
 
   pub stands_alone : n ≤ k → step g s x ≡ take_room s x (choose g s x.maps)
   unfolding step
   stands_alone l = go (slot_for g s x.slots) (slot_for_lem g s x.slots) e
     where
-      go : (r : Found) → SlotFor g s x.slots r → k ≡ slot_in n r → step_by g s x r ≡ take_room s x (choose g s x.maps)
-      go (At j) b q = absurd (omega (arith, b.1))
-      go Nothing b q = refl
+      go : (r : Option ℕ) → SlotFor g s x.slots r → k ≡ slot_in n r → step_by g s x r ≡ take_room s x (choose g s x.maps)
+      go (Some j) b q = absurd (omega (arith, b.1))
+      go None b q = refl

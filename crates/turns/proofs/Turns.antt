@@ -1,5 +1,6 @@
 -- What a loop over the storages needs of one turn. Placing the rest comes to what placing all comes to, since a step hands its state on; and a step adds one
 -- placed storage and at most one slot, keeps the maps' lengths, and clears no byte.
+use Rattle.std.specs.Prelude.{Option, Some, None, Result, Ok, Err}
 use mathlib.Core.Path.{◌≡◌, refl, sym, ap, ◌∙◌}
 use mathlib.Core.Bool.{Bool, true, false}
 use mathlib.Core.List.{List, [], ◌∷◌, ◌++◌, append-nil, append_assoc}
@@ -12,16 +13,13 @@ use Rattle.storages.specs.declared.Storage.{Storage}
 use Rattle.storages.specs.declared.Space.TheVariants.{App, Work}
 use Rattle.storages.specs.Storage.{tries}
 use Rattle.storages.specs.Room.{room}
-use Rattle.maps.specs.declared.Found.{Found}
-use Rattle.maps.specs.declared.Found.TheVariants.{Nothing, At}
 use Rattle.slots.specs.Slots.{opened}
-use Rattle.places.specs.declared.choose.Chosen.{Chosen}
-use Rattle.places.specs.declared.choose.Chosen.TheVariants.{Spot, Refused}
 use Rattle.places.specs.declared.memory.Floor.{Floor}
 use Rattle.places.specs.Memory.{Solid}
 use Rattle.places.specs.Place.{Given, Opened, joined, slot_for, choose, Placed, State, Outcome, done, refused, placed_at, take_room, join_slot, step_by, step, and_then, place_from, record_of, records_of}
 use Rattle.turns.proofs.Joining.{slot_at}
 use Rattle.places.proofs.Rooms.{reserve_clear, reserve_length}
+use Rattle.storages.specs.declared.Placement.{Placement}
 
 -- What holds of the state that comes out; a refusal promises nothing.
 abbrev pub After : (State → Type 0) → Outcome → Type 0
@@ -29,13 +27,13 @@ After P (done x) = P x
 After P (refused r) = Unit {0}
 
 -- A step either takes room or joins a slot: what both keep, a step keeps.
-pub step_cases : (P : State → Type 0) (g : Given) (s : Storage) (x : State) → ((c : Chosen) → After P (take_room s x c)) → ((k : ℕ) → P (join_slot s x k)) → After P (step g s x)
+pub step_cases : (P : State → Type 0) (g : Given) (s : Storage) (x : State) → ((c : Result Placement Refusal) → After P (take_room s x c)) → ((k : ℕ) → P (join_slot s x k)) → After P (step g s x)
 unfolding step
 step_cases P g s x taken joins = go (slot_for g s x.slots)
   where
-    go : (r : Found) → After P (step_by g s x r)
-    go (At k) = joins k
-    go Nothing = taken (choose g s x.maps)
+    go : (r : Option ℕ) → After P (step_by g s x r)
+    go (Some k) = joins k
+    go None = taken (choose g s x.maps)
 
 -- What each storage's step keeps, placing keeps.
 pub steps_keep : (P : State → Type 0) (Q : Storage → Type 0) (g : Given) → ((s : Storage) (x : State) → Q s → P x → After P (step g s x))
@@ -71,19 +69,19 @@ pub step_few : (g : Given) (s : Storage) (x : State) → Few x → After Few (st
 unfolding pick
 step_few g s x h = step_cases Few g s x taken joins
   where
-    taken : (c : Chosen) → After Few (take_room s x c)
-    taken (Refused r) = tt
-    taken (Spot p) = go (tries s)
+    taken : (c : Result Placement Refusal) → After Few (take_room s x c)
+    taken (Err r) = tt
+    taken (Ok p) = go (tries s)
       where
         it : Opened
         it = record { slot = opened s p; members = s.id ∷ [] }
 
-        go : (t : Bool) → length (pick t (x.slots ++ (it ∷ [])) x.slots) ≤ length (placed_at s p (pick t (At (length x.slots)) Nothing) x.placed)
-        go true = omega (arith, one_more x (record { what = s; spot = p; slot = At (length x.slots) }), length-append x.slots (it ∷ []))
-        go false = omega (arith, one_more x (record { what = s; spot = p; slot = Nothing }))
+        go : (t : Bool) → length (pick t (x.slots ++ (it ∷ [])) x.slots) ≤ length (placed_at s p (pick t (Some (length x.slots)) None) x.placed)
+        go true = omega (arith, one_more x (record { what = s; spot = p; slot = Some (length x.slots) }), length-append x.slots (it ∷ []))
+        go false = omega (arith, one_more x (record { what = s; spot = p; slot = None }))
 
     joins : (k : ℕ) → Few (join_slot s x k)
-    joins k = omega (arith, one_more x (record { what = s; spot = (slot_at x.slots k).slot.placement; slot = At k }), length-set x.slots k (joined s.id (slot_at x.slots k)))
+    joins k = omega (arith, one_more x (record { what = s; spot = (slot_at x.slots k).slot.placement; slot = Some k }), length-set x.slots k (joined s.id (slot_at x.slots k)))
 
 -- The maps stay as long as they are.
 abbrev pub Sizes : ℕ → ℕ → State → Type 0
@@ -92,9 +90,9 @@ Sizes a w x = (length x.maps.app ≡ a) × (length x.maps.wrk ≡ w)
 pub step_sizes : (g : Given) (a w : ℕ) (s : Storage) (x : State) → Sizes a w x → After (Sizes a w) (step g s x)
 step_sizes g a w s x h = step_cases (Sizes a w) g s x taken (λ k. h)
   where
-    taken : (c : Chosen) → After (Sizes a w) (take_room s x c)
-    taken (Refused r) = tt
-    taken (Spot p) = (reserve_length x.maps (room s.len p) App ∙ h.0, reserve_length x.maps (room s.len p) Work ∙ h.1)
+    taken : (c : Result Placement Refusal) → After (Sizes a w) (take_room s x c)
+    taken (Err r) = tt
+    taken (Ok p) = (reserve_length x.maps (room s.len p) App ∙ h.0, reserve_length x.maps (room s.len p) Work ∙ h.1)
 
 -- What is taken stays taken, so that a floor stays one.
 abbrev pub Over : Floor → State → Type 0
@@ -103,9 +101,9 @@ Over f x = Solid f x.maps.app x.maps.wrk
 pub step_over : (g : Given) (f : Floor) (s : Storage) (x : State) → Over f x → After (Over f) (step g s x)
 step_over g f s x h = step_cases (Over f) g s x taken (λ k. h)
   where
-    taken : (c : Chosen) → After (Over f) (take_room s x c)
-    taken (Refused r) = tt
-    taken (Spot p) =
+    taken : (c : Result Placement Refusal) → After (Over f) (take_room s x c)
+    taken (Err r) = tt
+    taken (Ok p) =
         (λ j l e. h.0 j l (reserve_clear x.maps (room s.len p) App j e), λ j l e. h.1 j l (reserve_clear x.maps (room s.len p) Work j e))
 
 -- ---- Results

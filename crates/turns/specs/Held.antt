@@ -1,36 +1,34 @@
 -- What the placer holds while it goes through the storages, against the state that `places` defines: maps and slots as they are, of each placed storage its id,
 -- its slot's number and a link to the one before it of the same key, and the result records so far.
-use Rattle.std.specs.Prelude.{◌≡◌, Bool, true, false, List, [], ◌∷◌, map, ℕ, zero, suc, ◌+◌, ◌*◌, ◌%◌, ◌≤◌, ◌<◌, min, max, eqb, length, take, drop, get_or, set}
+use Rattle.std.specs.Prelude.{◌≡◌, Bool, true, false, List, [], ◌∷◌, map, ℕ, zero, suc, ◌+◌, ◌*◌, ◌%◌, ◌≤◌, ◌<◌, min, max, eqb, length, take, drop, get_or, set, Option, Some, None, Result, Ok, Err}
 use Rattle.rows.specs.Row.{member_at}
 use Rattle.rows.specs.Links.{Linked}
 use Rattle.fields.specs.Pick.{pick, ◌and◌, ◌or◌, All}
 use Rattle.records.specs.Outcome.{laid}
-use Rattle.maps.specs.declared.Found.{Found}
-use Rattle.maps.specs.declared.Found.TheVariants.{Nothing, At}
 use Rattle.storages.specs.declared.Storage.{Storage}
 use Rattle.slots.specs.declared.Slot.{Slot}
 use Rattle.slots.specs.Slots.{opened}
-use Rattle.turns.specs.declared.turn.Verdict.{Verdict}
-use Rattle.turns.specs.declared.turn.Verdict.TheVariants.{Placed, Opened, Refused}
 use Rattle.places.specs.Place as P
+use Rattle.storages.specs.declared.Placement.{Placement}
+use Rattle.records.specs.declared.Refusal.{Refusal}
 
 -- A storage that is in no slot has the number 256, which is no slot's.
-abbrev pub slot_number : Found → ℕ
-slot_number Nothing = 256
-slot_number (At k) = k
+abbrev pub slot_number : Option ℕ → ℕ
+slot_number None = 256
+slot_number (Some k) = k
 
-abbrev pub in_slot : ℕ → Found → Bool
-in_slot k Nothing = false
-in_slot k (At j) = eqb j k
+abbrev pub in_slot : ℕ → Option ℕ → Bool
+in_slot k None = false
+in_slot k (Some j) = eqb j k
 
 -- The ids of the storages in slot k, in file order.
 unfoldable pub ids_in : ℕ → List P.Placed → List ℕ
 ids_in k [] = []
 ids_in k (y ∷ ys) = pick (in_slot k y.slot) (y.what.id ∷ ids_in k ys) (ids_in k ys)
 
-abbrev pub SlotBelow : ℕ → Found → Type 0
-SlotBelow n Nothing = Unit {0}
-SlotBelow n (At k) = k < n
+abbrev pub SlotBelow : ℕ → Option ℕ → Type 0
+SlotBelow n None = Unit {0}
+SlotBelow n (Some k) = k < n
 
 -- The members of a slot are the storages that carry its number, at least the one that opened it, and no storage carries a number that is no slot's.
 pub record Numbered (x : P.State) : Type 0 where
@@ -49,9 +47,9 @@ abbrev pub slot_key : Slot → ℕ
 slot_key t = key_by t.owner t.kind t.len
 
 -- A storage in a slot has the slot's key.
-abbrev pub Keyed : List P.Opened → P.Placed → Found → Type 0
-Keyed ts y Nothing = Unit {0}
-Keyed ts y (At k) = key_of y.what ≡ slot_key (get_or ts k P.no_opened).slot
+abbrev pub Keyed : List P.Opened → P.Placed → Option ℕ → Type 0
+Keyed ts y None = Unit {0}
+Keyed ts y (Some k) = key_of y.what ≡ slot_key (get_or ts k P.no_opened).slot
 
 -- Graph and copies in their rows tell what placing is given, for ids below 256.
 pub record Tells (g : P.Given) (graph copies : List ℕ) : Type 0 where
@@ -106,23 +104,23 @@ pub record Held (x : P.State) (app wrk : List ℕ) (list : List Slot) (n : ℕ) 
   pub out_is : out ≡ laid 2048 (P.records_of x.placed) []
 
 -- The number of the slot that was found; n where none was.
-abbrev pub slot_in : ℕ → Found → ℕ
-slot_in n Nothing = n
-slot_in n (At k) = k
+abbrev pub slot_in : ℕ → Option ℕ → ℕ
+slot_in n None = n
+slot_in n (Some k) = k
 
 -- The list of slots after a storage, and how many they are: with the one that it opened, if it did.
-abbrev pub list_after : List Slot → ℕ → Storage → Verdict → List Slot
-list_after list n s Placed = list
-list_after list n s (Opened p) = set list n (opened s p)
-list_after list n s (Refused r) = list
+abbrev pub list_after : List Slot → ℕ → Storage → Result (Option Placement) Refusal → List Slot
+list_after list n s (Ok None) = list
+list_after list n s (Ok (Some p)) = set list n (opened s p)
+list_after list n s (Err r) = list
 
-abbrev pub count_after : ℕ → Verdict → ℕ
-count_after n Placed = n
-count_after n (Opened p) = n + 1
-count_after n (Refused r) = n
+abbrev pub count_after : ℕ → Result (Option Placement) Refusal → ℕ
+count_after n (Ok None) = n
+count_after n (Ok (Some p)) = n + 1
+count_after n (Err r) = n
 
 -- What the placing of one storage leaves: the state that its step comes to, or the step's refusal.
-abbrev pub TurnedBy : P.Outcome → Verdict → List ℕ → List ℕ → List Slot → ℕ → List ℕ → List ℕ → List ℕ → List ℕ → ℕ → Type 0
-TurnedBy o Placed app wrk list n ids kin numbers out i = (y : P.State) × (o ≡ P.done y) × Held y app wrk list n ids kin numbers out i
-TurnedBy o (Opened p) app wrk list n ids kin numbers out i = (y : P.State) × (o ≡ P.done y) × Held y app wrk list n ids kin numbers out i
-TurnedBy o (Refused r) app wrk list n ids kin numbers out i = o ≡ P.refused r
+abbrev pub TurnedBy : P.Outcome → Result (Option Placement) Refusal → List ℕ → List ℕ → List Slot → ℕ → List ℕ → List ℕ → List ℕ → List ℕ → ℕ → Type 0
+TurnedBy o (Ok None) app wrk list n ids kin numbers out i = (y : P.State) × (o ≡ P.done y) × Held y app wrk list n ids kin numbers out i
+TurnedBy o (Ok (Some p)) app wrk list n ids kin numbers out i = (y : P.State) × (o ≡ P.done y) × Held y app wrk list n ids kin numbers out i
+TurnedBy o (Err r) app wrk list n ids kin numbers out i = o ≡ P.refused r

@@ -77,13 +77,13 @@ fn note(
 }
 
 // A storage that may share opens a slot at its place.
-fn opens(s: Storage, p: Placement) -> Verdict
+fn opens(s: Storage, p: Placement) -> Result<Option<Placement>, Refusal>
     ensures { result ≡ pick (tries s) (Verdict.Opened p) Verdict.Placed }
 {
     if tries_slots(s) {
-        return Verdict::Opened(p);
+        return Ok(Some(p));
     }
-    Verdict::Placed
+    Ok(None)
 }
 
 // The number of the slot that a storage opens: the next one, or 256 if it may not share.
@@ -105,7 +105,7 @@ fn take_own(
     numbers: &mut [u16],
     out: &mut [u8],
     i: usize,
-) -> Verdict
+) -> Result<Option<Placement>, Refusal>
     requires { (length ids.old ≡ 256) × (length kin.old ≡ 512) × (length numbers.old ≡ 256) × (length out.old ≡ 2048) × (length app.old ≤ 256) × (length work.old ≤ 512) × (i < 256) × (s.id < 256)
         × FixedSmall s.len s.fixed × (n ≤ 256) × Solid floor app.old work.old }
     ensures { (g : Given) (x : State) (list : List Slot) → length list ≡ 256 → g.lo ≡ 0 → g.hi ≡ length app.old
@@ -113,8 +113,8 @@ fn take_own(
         → TurnedBy (take_room s x (choose g s x.maps)) result app.new work.new (list_after list n s result) (count_after n result) ids.new kin.new numbers.new out.new (i + 1) }
 {
     match choose(s, app, work, floor, 0, app.len()) {
-        Chosen::Refused(r) => Verdict::Refused(r),
-        Chosen::Spot(p) => {
+        Err(r) => Err(r),
+        Ok(p) => {
             take_room(app, work, room_of(s.len, p));
             note(ids, kin, numbers, out, i, s, number_for(n, s), p);
             opens(s, p)
@@ -137,7 +137,7 @@ pub fn place_one(
     numbers: &mut [u16],
     out: &mut [u8],
     i: usize,
-) -> Verdict
+) -> Result<Option<Placement>, Refusal>
     requires { (length graph.now ≡ 1024) × (length copies.now ≡ 1024) × (length ids.old ≡ 256) × (length kin.old ≡ 512) × (length numbers.old ≡ 256) × (length out.old ≡ 2048) × (length app.old ≤ 256) × (length work.old ≤ 512) × (i < 256) × (s.id < 256)
         × FixedSmall s.len s.fixed × ((x : State) × Held x app.old work.old (slots_in list) n ids.old kin.old numbers.old out.old i) × Solid floor app.old work.old }
     ensures { (g : Given) (x : State) → Tells g graph.now copies.now → g.lo ≡ 0 → g.hi ≡ length app.old
@@ -147,7 +147,7 @@ pub fn place_one(
     let k = slot_for(list, n, s, graph, copies, ids, kin, numbers, i);
     if k < n {
         note(ids, kin, numbers, out, i, s, k, placement_at(list, k));
-        return Verdict::Placed;
+        return Ok(None);
     }
     take_own(n, s, app, work, floor, ids, kin, numbers, out, i)
 }

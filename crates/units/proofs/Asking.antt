@@ -1,5 +1,6 @@
 -- Laws of the queries' outcomes. Each way out of the code is one equation of the definitions: a short buffer, a refusal of the file or of the place,
 -- and a step that is there. `asks_decide`, `tells_decide`: any two outcomes that a contract permits coincide.
+use Rattle.std.specs.Prelude.{Result, Ok, Err, Unit, tt, true, false, Bool}
 use mathlib.Core.Path.{◌≡◌, refl, sym, ap, ap₂, ◌∙◌}
 use mathlib.Core.Logic.{◌⊎◌, inl, inr}
 use mathlib.Core.Bool.{Bool, true, false}
@@ -20,8 +21,6 @@ use Rattle.records.specs.Program.{Function, empty, step_of, program}
 use Rattle.records.specs.Place.{nowhere, step_at}
 use Rattle.records.specs.declared.Refusal.{Refusal}
 use Rattle.records.specs.declared.Refusal.TheVariants.{Short, Absent}
-use Rattle.records.specs.declared.Checked.{Checked}
-use Rattle.records.specs.declared.Checked.TheVariants as checked
 use Rattle.records.proofs.Accepted.{accepted}
 use Rattle.records.proofs.Outcomes.{cleared, laid_rest}
 use Rattle.units.specs.Uses.{reads, writes, effect}
@@ -29,10 +28,6 @@ use Rattle.units.specs.Rows.{unit_row, storage_row}
 use Rattle.units.specs.Along.{from, function_from, step_from, IsStep, StandsAt, Sane, Ready, SoundBoth, Locates}
 use Rattle.units.specs.Ask.{Asked, Query, asked_of, asked, Asks, Told, yes_no, told_of, told, Tells}
 use Rattle.units.specs.Seek.{Refuses, Reached, Seeks, Shown, Shows, given, storages_below}
-use Rattle.units.specs.declared.Answered.{Answered}
-use Rattle.units.specs.declared.Answered.TheVariants.{Done, Refused}
-use Rattle.units.specs.declared.Effect.{Effect}
-use Rattle.units.specs.declared.Effect.TheVariants as effects
 use Rattle.units.specs.declared.cursor.Cursor.{Cursor}
 use Rattle.units.specs.declared.locate.Located.{Located}
 use Rattle.units.specs.declared.locate.Located.TheVariants.{At, Nowhere}
@@ -58,11 +53,11 @@ copied row₀ found row' n l e =
     let i : 0 + length found ≡ n = omega arith in
     e ∙ ap (λ (v : List ℕ). put row₀ 0 v) k ∙ ap (λ (i : ℕ). found ++ drop i row₀) i
 
-module _ (r : Answered) (found row₀ : List ℕ) (n : ℕ) where
-  pub gives_done : (row' : List ℕ) → r ≡ Done → length found ≡ n → row' ≡ put row₀ 0 (row found 0 n) → (Done ≡ r) × (row' ≡ given r found n row₀)
+module _ (r : Result (Unit {0}) Refusal) (found row₀ : List ℕ) (n : ℕ) where
+  pub gives_done : (row' : List ℕ) → r ≡ (Ok tt) → length found ≡ n → row' ≡ put row₀ 0 (row found 0 n) → ((Ok tt) ≡ r) × (row' ≡ given r found n row₀)
   gives_done row' e l h = (sym e, rw e (copied row₀ found row' n l h))
 
-  pub gives_refused : (x : Refusal) → r ≡ Refused x → (Refused x ≡ r) × (row₀ ≡ given r found n row₀)
+  pub gives_refused : (x : Refusal) → r ≡ Err x → (Err x ≡ r) × (row₀ ≡ given r found n row₀)
   gives_refused x e = (sym e, rw e)
 
 -- The observable effect -----------------------------------------------------------------------------------------------------------------------
@@ -116,14 +111,14 @@ module _ (t : List ℕ) (r : Bool) (h : r ≡ effect (step_of (eqb (get_or t 0 0
   unfolding effect u8_at
   effect_there = h
 
-  pub effect_yes : r ≡ true → effects.Yes ≡ yes_no (effect (step_from t 0))
+  pub effect_yes : r ≡ true → (Ok true) ≡ yes_no (effect (step_from t 0))
   effect_yes e = ap yes_no (sym e ∙ effect_there)
 
-  pub effect_no : r ≡ false → effects.No ≡ yes_no (effect (step_from t 0))
+  pub effect_no : r ≡ false → (Ok false) ≡ yes_no (effect (step_from t 0))
   effect_no e = ap yes_no (sym e ∙ effect_there)
 
 -- the step at the front of a tail of the file
-effect_here : (f t : List ℕ) (at : ℕ) (e : Effect) → t ≡ drop at f → e ≡ yes_no (effect (step_from t 0)) → e ≡ yes_no (effect (step_from f at))
+effect_here : (f t : List ℕ) (at : ℕ) (e : Result Bool Refusal) → t ≡ drop at f → e ≡ yes_no (effect (step_from t 0)) → e ≡ yes_no (effect (step_from f at))
 unfolding effect
 effect_here f t at e p q = rw p at q
 
@@ -137,8 +132,8 @@ module _ (f : List ℕ) (place : ℕ) where
     pub sane : Sane table
     pub short : length f ≤ 16384
 
-  module _ (r : Checked) (words found table : List ℕ) (h : Numbers f r words found table) where
-    pub numbered_units : ((i : ℕ) → get_or f i 0 < 256) → (n : ℕ) → r ≡ checked.Units n → Accepted words found table
+  module _ (r : Result ℕ Refusal) (words found table : List ℕ) (h : Numbers f r words found table) where
+    pub numbered_units : ((i : ℕ) → get_or f i 0 < 256) → (n : ℕ) → r ≡ Ok n → Accepted words found table
     numbered_units bytes n e = go (check one f) refl h.0
       where
         go : (a : Answer) → check one f ≡ a → record { answer = r; words = words } ≡ outcome_by one [] a → Accepted words found table
@@ -153,17 +148,17 @@ module _ (f : List ℕ) (place : ℕ) where
             }
         go (refusal x) q p = let i = ap (λ (o : Outcome). o.answer) p in let z : ◌≡◌ {A = ℕ} 0 1 = cc in absurd (omega arith)
 
-    pub seeks_refused : (x : Refusal) → r ≡ checked.Refused x → Seeks f place (sought.Refused x) words found table
+    pub seeks_refused : (x : Refusal) → r ≡ Err x → Seeks f place (sought.Refused x) words found table
     seeks_refused x e = go (check one f) refl h.0
       where
         go : (a : Answer) → check one f ≡ a → record { answer = r; words = words } ≡ outcome_by one [] a → Seeks f place (sought.Refused x) words found table
         go (units us) q p = let i = ap (λ (o : Outcome). o.answer) p in let z : ◌≡◌ {A = ℕ} 0 1 = cc in absurd (omega arith)
         go (refusal y) q p =
-            let i : r ≡ checked.Refused y = ap (λ (o : Outcome). o.answer) p in
+            let i : r ≡ Err y = ap (λ (o : Outcome). o.answer) p in
             let k : y ≡ x = cc in
             (inl (rw (← k) q), ap (λ (o : Outcome). o.words) p)
 
-    module _ (bytes : (i : ℕ) → get_or f i 0 < 256) (n : ℕ) (e : r ≡ checked.Units n) (l : Located) (s : SoundBoth f l) (k : (us : List ℕ) → check one f ≡ units us → Locates f place l) where
+    module _ (bytes : (i : ℕ) → get_or f i 0 < 256) (n : ℕ) (e : r ≡ Ok n) (l : Located) (s : SoundBoth f l) (k : (us : List ℕ) → check one f ≡ units us → Locates f place l) where
       pub seeks_here : (own here : Cursor) → l ≡ At own here → Seeks f place (sought.Here own here) words found table
       seeks_here own here q =
           let a = numbered_units bytes n e in
@@ -197,7 +192,7 @@ module _ (f : List ℕ) (place : ℕ) where
     pub shows_done : ((us : List ℕ) (fn : Function) → Ready f us found table → StandsAt f own
         → fn.abis ≡ (from f own.at).abis → StandsAt f here → IsStep f here.at
         → (reads' ≡ unit_row one us (reads one (program one f) fn (step_from f here.at))) × (writes' ≡ unit_row one us (writes one (program one f) (step_from f here.at))) × StandsAt f next)
-        → Shows f place Done words reads' writes'
+        → Shows f place (Ok tt) words reads' writes'
     shows_done k =
         let l = h.located in
         let both = k h.us (function_from f l.0 own.at) h.ready l.2 refl l.3 (rw l.4 l.5) in
@@ -215,7 +210,7 @@ module _ (f : List ℕ) (place : ℕ) where
   -- The set queries --------------------------------------------------------------------------------------------------------------------------
 
   module _ (q : Query) (n : ℕ) (before row₀ : List ℕ) where
-    pub asks_short : (length before < 512) ⊎ (length row₀ < n) → Asks q n f place before row₀ (Refused Short) before row₀
+    pub asks_short : (length before < 512) ⊎ (length row₀ < n) → Asks q n f place before row₀ (Err Short) before row₀
     unfolding asked
     asks_short (inl l) = sym (pick_yes _ _ _ (rw (lt-ltb (length before) 512 l) (yes_or (ltb (length row₀) n))))
     asks_short (inr l) = sym (pick_yes _ _ _ (rw (lt-ltb (length row₀) n l) (or_yes (ltb (length before) 512))))
@@ -229,17 +224,17 @@ module _ (f : List ℕ) (place : ℕ) where
       unfolding asked
       asked_long = pick_no _ _ _ long
 
-      asks_refused : (x : Refusal) (words : List ℕ) → Refuses f place x → words ≡ laid 512 [] [] → Asks q n f place before row₀ (Refused x) (words ++ drop 512 before) row₀
+      asks_refused : (x : Refusal) (words : List ℕ) → Refuses f place x → words ≡ laid 512 [] [] → Asks q n f place before row₀ (Err x) (words ++ drop 512 before) row₀
       asks_refused x words (inl e) h = rw (asked_long, e, h, laid_rest 512 [] before)
       asks_refused x words (inr e) h = rw (asked_long, e.accepted, e.away, e.says, h, laid_rest 512 [] before)
 
       -- `found` is handed over
-      pub asks_given : (r r' : Answered) (words reads' writes' found row' : List ℕ) → Shows f place r words reads' writes' → r' ≡ r → row' ≡ given r found n row₀ → length found ≡ n
+      pub asks_given : (r r' : Result (Unit {0}) Refusal) (words reads' writes' found row' : List ℕ) → Shows f place r words reads' writes' → r' ≡ r → row' ≡ given r found n row₀ → length found ≡ n
           → ((s : Shown f place words reads' writes') → found ≡ q one (program one f) s.us s.fn s.st) → Asks q n f place before row₀ r' (words ++ drop 512 before) row'
-      asks_given Done r' words reads' writes' found row' s d e l k =
+      asks_given (Ok tt) r' words reads' writes' found row' s d e l k =
           let g = k s in
           rw (asked_long, s.accepted, s.there, ← g, l, d, e, s.words_are, laid_rest 512 s.us before)
-      asks_given (Refused x) r' words reads' writes' found row' s d e l k = rw (d, e) (asks_refused x words s.0 s.1)
+      asks_given (Err x) r' words reads' writes' found row' s d e l k = rw (d, e) (asks_refused x words s.0 s.1)
 
   -- the storages of the rows
   module _ (before words reads' writes' : List ℕ) (s : Shown f place words reads' writes') where
@@ -262,7 +257,7 @@ module _ (f : List ℕ) (place : ℕ) where
   -- The effect query -------------------------------------------------------------------------------------------------------------------------
 
   module _ (before : List ℕ) where
-    pub tells_short : length before < 512 → Tells f place before (effects.Refused Short) before
+    pub tells_short : length before < 512 → Tells f place before (Err Short) before
     unfolding told
     tells_short l = sym (pick_yes _ _ _ (lt-ltb (length before) 512 l))
 
@@ -271,11 +266,11 @@ module _ (f : List ℕ) (place : ℕ) where
       unfolding told
       told_long = pick_no _ _ _ (le-ltb (length before) 512 a)
 
-      pub tells_refused : (x : Refusal) → Refuses f place x → words ≡ laid 512 [] [] → Tells f place before (effects.Refused x) (words ++ drop 512 before)
+      pub tells_refused : (x : Refusal) → Refuses f place x → words ≡ laid 512 [] [] → Tells f place before (Err x) (words ++ drop 512 before)
       tells_refused x (inl e) h = rw (told_long, e, h, laid_rest 512 [] before)
       tells_refused x (inr e) h = rw (told_long, e.accepted, e.away, e.says, h, laid_rest 512 [] before)
 
-      pub tells_here : (own here : Cursor) (e : Effect) (t : List ℕ) → Reached f place own here words found table → t ≡ drop here.at f → e ≡ yes_no (effect (step_from t 0))
+      pub tells_here : (own here : Cursor) (e : Result Bool Refusal) (t : List ℕ) → Reached f place own here words found table → t ≡ drop here.at f → e ≡ yes_no (effect (step_from t 0))
           → Tells f place before e (words ++ drop 512 before)
       tells_here own here e t h p q =
           let l = h.located in
@@ -283,13 +278,13 @@ module _ (f : List ℕ) (place : ℕ) where
           rw (told_long, h.ready.accepted, l.1, k, h.words_are, laid_rest 512 h.us before)
 
   -- Any two outcomes that the contract of a query permits coincide.
-  pub asks_decide : (q : Query) (n : ℕ) (before row₀ : List ℕ) (r r' : Answered) (units₁ units₂ row₁ row₂ : List ℕ) → Asks q n f place before row₀ r units₁ row₁ → Asks q n f place before row₀ r' units₂ row₂
+  pub asks_decide : (q : Query) (n : ℕ) (before row₀ : List ℕ) (r r' : Result (Unit {0}) Refusal) (units₁ units₂ row₁ row₂ : List ℕ) → Asks q n f place before row₀ r units₁ row₁ → Asks q n f place before row₀ r' units₂ row₂
       → (r ≡ r') × (units₁ ≡ units₂) × (row₁ ≡ row₂)
   asks_decide q n before row₀ r r' units₁ units₂ row₁ row₂ p s =
       let e : ◌≡◌ {A = Asked} (record { answer = r; units = units₁; row = row₁ }) (record { answer = r'; units = units₂; row = row₂ }) = p ∙ sym s in
       (ap (λ (o : Asked). o.answer) e, ap (λ (o : Asked). o.units) e, ap (λ (o : Asked). o.row) e)
 
-  pub tells_decide : (before : List ℕ) (r r' : Effect) (units₁ units₂ : List ℕ) → Tells f place before r units₁ → Tells f place before r' units₂ → (r ≡ r') × (units₁ ≡ units₂)
+  pub tells_decide : (before : List ℕ) (r r' : Result Bool Refusal) (units₁ units₂ : List ℕ) → Tells f place before r units₁ → Tells f place before r' units₂ → (r ≡ r') × (units₁ ≡ units₂)
   tells_decide before r r' units₁ units₂ p s =
       let e : ◌≡◌ {A = Told} (record { answer = r; units = units₁ }) (record { answer = r'; units = units₂ }) = p ∙ sym s in
       (ap (λ (o : Told). o.answer) e, ap (λ (o : Told). o.units) e)

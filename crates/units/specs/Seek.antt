@@ -1,5 +1,5 @@
 -- What the queries do on the way to their answers: the contracts of the functions behind them. No public contract cites it.
-use Rattle.std.specs.Prelude.{◌≡◌, ◌⊎◌, true, List, [], ◌∷◌, ◌++◌, ℕ, zero, suc, ◌≤◌, length, get_or, drop}
+use Rattle.std.specs.Prelude.{◌≡◌, ◌⊎◌, true, List, [], ◌∷◌, ◌++◌, ℕ, zero, suc, ◌≤◌, length, get_or, drop, Result, Ok, Err, Unit, tt}
 use Rattle.rows.specs.Row.{member}
 use Rattle.fields.specs.Pick.{pick, has}
 use Rattle.fields.specs.Edition.{one}
@@ -14,8 +14,6 @@ use Rattle.units.specs.Rows.{unit_row}
 use Rattle.units.specs.Along.{Sane, Ready, Locates, SoundBoth}
 use Rattle.units.specs.declared.cursor.Cursor.{Cursor}
 use Rattle.units.specs.declared.locate.Located.TheVariants.{At}
-use Rattle.units.specs.declared.Answered.{Answered}
-use Rattle.units.specs.declared.Answered.TheVariants.{Done, Refused}
 use Rattle.units.specs.declared.ask.Sought.{Sought}
 use Rattle.units.specs.declared.ask.Sought.TheVariants as sought
 
@@ -54,14 +52,14 @@ pub record Shown (f : List ℕ) (place : ℕ) (words reads' writes' : List ℕ) 
   pub reads_are : reads' ≡ unit_row one us (reads one (program one f) fn st)
   pub writes_are : writes' ≡ unit_row one us (writes one (program one f) st)
 
-abbrev pub Shows : List ℕ → ℕ → Answered → List ℕ → List ℕ → List ℕ → Type 0
-Shows f place Done words reads' writes' = Shown f place words reads' writes'
-Shows f place (Refused x) words reads' writes' = Refuses f place x × (words ≡ laid 512 [] [])
+abbrev pub Shows : List ℕ → ℕ → Result (Unit {0}) Refusal → List ℕ → List ℕ → List ℕ → Type 0
+Shows f place (Ok tt) words reads' writes' = Shown f place words reads' writes'
+Shows f place (Err x) words reads' writes' = Refuses f place x × (words ≡ laid 512 [] [])
 
 -- A row is handed over on success alone.
-abbrev pub given : Answered → List ℕ → ℕ → List ℕ → List ℕ
-given Done found n row = found ++ drop n row
-given (Refused x) found n row = row
+abbrev pub given : Result (Unit {0}) Refusal → List ℕ → ℕ → List ℕ → List ℕ
+given (Ok tt) found n row = found ++ drop n row
+given (Err x) found n row = row
 
 -- Every word of a set is one of the units.
 abbrev pub Within : List ℕ → List ℕ → Type 0

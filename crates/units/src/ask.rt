@@ -28,19 +28,19 @@ pub fn find_step(
     words: &mut [u32],
     numbers: &mut [u16],
     table: &mut [u16],
-) -> Sought
+) -> Result<Site, Refusal>
     requires { (length words.old ≡ 512) × (2341 ≤ length numbers.old) × (length table.old ≡ 512) }
     ensures { Seeks file.now place result words.new numbers.new table.new }
 {
     match records::number_units(file, words, numbers, table) {
-        Checked::Units(_) => match locate(file, place) {
+        Ok(_) => match locate(file, place) {
             Located::At { own, here } => Sought::Here { own, here },
-            Located::Nowhere => {
+            None => {
                 records::clear(words);
-                Sought::Refused(Refusal::Absent(place))
+                Err(Refusal::Absent(place))
             }
         },
-        Checked::Refused(r) => Sought::Refused(r),
+        Err(r) => Err(r),
     }
 }
 
@@ -51,7 +51,7 @@ pub fn rows_at(
     words: &mut [u32],
     reads: &mut [u64],
     writes: &mut [u64],
-) -> Answered
+) -> Result<(), Refusal>
     requires { (length words.old ≡ 512) × (length reads.old ≡ 8) × (length writes.old ≡ 8) }
     ensures { Shows file.now place result words.new reads.new writes.new }
 {
@@ -60,23 +60,23 @@ pub fn rows_at(
     match find_step(file, place, words, &mut numbers, &mut table) {
         Sought::Here { own, here } => {
             uses_at(file, &numbers, &table, own, here, reads, writes);
-            Answered::Done
+            Ok(())
         }
-        Sought::Refused(r) => Answered::Refused(r),
+        Err(r) => Err(r),
     }
 }
 
 // Hands a found row over to the lent one, which a refusal leaves as it is.
-pub fn give_row(r: Answered, found: &[u64], n: usize, row: &mut [u64]) -> Answered
+pub fn give_row(r: Result<(), Refusal>, found: &[u64], n: usize, row: &mut [u64]) -> Result<(), Refusal>
     requires { (length found.now ≡ n) × (n ≤ length row.old) }
     ensures { (result ≡ r) × (row.new ≡ given r found.now n row.old) }
 {
     match r {
-        Answered::Done => {
+        Ok(()) => {
             rows::copy_row(row, 0, found, 0, n);
-            Answered::Done
+            Ok(())
         }
-        Answered::Refused(x) => Answered::Refused(x),
+        Err(x) => Err(x),
     }
 }
 
@@ -122,12 +122,12 @@ fn effect_of(ends: bool, op: u8, sub: u8) -> bool
 }
 
 // The effect of the step whose record stands at the front of a tail.
-pub fn effect_at(tail: &[u8]) -> Effect
+pub fn effect_at(tail: &[u8]) -> Result<bool, Refusal>
     requires { 4 ≤ length tail.now }
     ensures { result ≡ yes_no (effect (step_from tail.now 0)) }
 {
     if effect_of(tail[0] == 7, tail[1], tail[2]) {
-        return Effect::Yes;
+        return Ok(true);
     }
-    Effect::No
+    Ok(false)
 }

@@ -35,14 +35,14 @@ fn unit_row(
     written: bool,
     units: &mut [u32],
     row: &mut [u64],
-) -> Answered
+) -> Result<(), Refusal>
     ensures { Asks (row_of written) 8 file.now place units.old row.old result units.new row.new }
 {
     if units.len() < 512 {
-        return Answered::Refused(Refusal::Short);
+        return Err(Refusal::Short);
     }
     if row.len() < 8 {
-        return Answered::Refused(Refusal::Short);
+        return Err(Refusal::Short);
     }
     let mut reads = [0u64; 8];
     let mut writes = [0u64; 8];
@@ -60,14 +60,14 @@ fn storage_row(
     written: bool,
     units: &mut [u32],
     row: &mut [u64],
-) -> Answered
+) -> Result<(), Refusal>
     ensures { Asks (storage_row_of written) 4 file.now place units.old row.old result units.new row.new }
 {
     if units.len() < 512 {
-        return Answered::Refused(Refusal::Short);
+        return Err(Refusal::Short);
     }
     if row.len() < 4 {
-        return Answered::Refused(Refusal::Short);
+        return Err(Refusal::Short);
     }
     let mut reads = [0u64; 8];
     let mut writes = [0u64; 8];
@@ -82,44 +82,44 @@ fn storage_row(
 }
 
 // The units that the step at a place reads.
-pub fn unit_reads(file: &[u8], place: usize, units: &mut [u32], row: &mut [u64]) -> Answered
+pub fn unit_reads(file: &[u8], place: usize, units: &mut [u32], row: &mut [u64]) -> Result<(), Refusal>
     ensures { Asks read_row 8 file.now place units.old row.old result units.new row.new }
 {
     unit_row(file, place, false, units, row)
 }
 
 // The units that it writes.
-pub fn unit_writes(file: &[u8], place: usize, units: &mut [u32], row: &mut [u64]) -> Answered
+pub fn unit_writes(file: &[u8], place: usize, units: &mut [u32], row: &mut [u64]) -> Result<(), Refusal>
     ensures { Asks write_row 8 file.now place units.old row.old result units.new row.new }
 {
     unit_row(file, place, true, units, row)
 }
 
 // The storages of the units that it reads.
-pub fn storage_reads(file: &[u8], place: usize, units: &mut [u32], row: &mut [u64]) -> Answered
+pub fn storage_reads(file: &[u8], place: usize, units: &mut [u32], row: &mut [u64]) -> Result<(), Refusal>
     ensures { Asks storage_read_row 4 file.now place units.old row.old result units.new row.new }
 {
     storage_row(file, place, false, units, row)
 }
 
 // The storages of the units that it writes.
-pub fn storage_writes(file: &[u8], place: usize, units: &mut [u32], row: &mut [u64]) -> Answered
+pub fn storage_writes(file: &[u8], place: usize, units: &mut [u32], row: &mut [u64]) -> Result<(), Refusal>
     ensures { Asks storage_write_row 4 file.now place units.old row.old result units.new row.new }
 {
     storage_row(file, place, true, units, row)
 }
 
 // Whether it may not be dropped though nothing reads what it writes.
-pub fn observable_effect(file: &[u8], place: usize, units: &mut [u32]) -> Effect
+pub fn observable_effect(file: &[u8], place: usize, units: &mut [u32]) -> Result<bool, Refusal>
     ensures { Tells file.now place units.old result units.new }
 {
     if units.len() < 512 {
-        return Effect::Refused(Refusal::Short);
+        return Err(Refusal::Short);
     }
     let mut numbers = [0u16; 2341];
     let mut table = [0u16; 512];
     match ask::find_step(file, place, &mut units[..512], &mut numbers, &mut table) {
         Sought::Here { own: _, here } => ask::effect_at(tail_of(file, here.at)),
-        Sought::Refused(r) => Effect::Refused(r),
+        Err(r) => Err(r),
     }
 }

@@ -25,7 +25,7 @@ fn begins_step(kind: u8) -> bool
 }
 
 // Walks the records from the front to the place asked.
-pub fn locate(file: &[u8], place: usize) -> Located
+pub fn locate(file: &[u8], place: usize) -> Option<Site>
     requires { length file.now ≤ 16384 }
     ensures { SoundBoth file.now result × ((us : List ℕ) → check one file.now ≡ units us → Locates file.now place result) }
 {
@@ -36,10 +36,10 @@ pub fn locate(file: &[u8], place: usize) -> Located
         let kind = file[at];
         let len = length_of(kind);
         if len == 0 {
-            return Located::Nowhere;
+            return None;
         }
         if file.len() - at < len {
-            return Located::Nowhere;
+            return None;
         }
         if at == place {
             if begins_step(kind) {
@@ -48,7 +48,7 @@ pub fn locate(file: &[u8], place: usize) -> Located
                     here: Cursor { at, k },
                 };
             }
-            return Located::Nowhere;
+            return None;
         }
         k += brings(kind);
         at += len;
@@ -56,5 +56,5 @@ pub fn locate(file: &[u8], place: usize) -> Located
             own = Cursor { at, k };
         }
     }
-    Located::Nowhere
+    None
 }

@@ -7,14 +7,14 @@ use Rattle.allocator.proofs.place_in.Goals as goal
 pub place_on-requires : goal.place_on-requires
 place_on-requires c =
     let p = c.requires in
-    (search rules, search rules, search rules, search rules, search rules, after_passes _ _ _ _ _ p.0 p.1 p.2 p.3 _ _ _ _ _ c.graph.ensures _ c.in-Passes.is)
+    (search rules, search rules, search rules, search rules, search rules, after_passes _ _ _ _ _ p.0 p.1 p.2 p.3 _ _ _ _ _ c.graph.ensures _ c.in-Ok.is)
 
-pub returns-in-Refused : goal.returns-in-Refused
-returns-in-Refused c =
+pub returns-in-Err : goal.returns-in-Err
+returns-in-Err c =
     let p = c.requires in
-    after_refusal _ _ _ _ _ p.0 p.1 p.2 p.3 _ _ _ _ _ c.graph.ensures _ _ c.in-Refused.is
+    after_refusal _ _ _ _ _ p.0 p.1 p.2 p.3 _ _ _ _ _ c.graph.ensures _ _ c.in-Err.is
 
-pub returns-in-Passes : goal.returns-in-Passes
-returns-in-Passes c =
+pub returns-in-Ok : goal.returns-in-Ok
+returns-in-Ok c =
     let p = c.requires in
-    after_placing _ _ _ _ _ p.0 p.1 p.2 p.3 _ _ _ _ _ c.graph.ensures _ _ _ _ _ _ _ _ c.in-Passes.is c.place_on.ensures
+    after_placing _ _ _ _ _ p.0 p.1 p.2 p.3 _ _ _ _ _ c.graph.ensures _ _ _ _ _ _ _ _ c.in-Ok.is c.place_on.ensures

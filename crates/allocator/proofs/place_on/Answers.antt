@@ -9,12 +9,12 @@ allocate-requires c =
     let h = c.requires.5 in
     (analysed_header _ _ _ _ _ _ h, analysed_numbers _ _ _ _ _ _ h, analysed_fit _ _ _ _ _ _ h, c.requires.2, c.requires.3, sym (laid_none 2048))
 
-pub returns-in-Done : goal.returns-in-Done
-returns-in-Done c =
-    placed_done _ _ _ _ _ _ c.requires.5 _ _ _ c.allocate.ensures _ _ _ c.requires.4 c.in-Done.is c.copy_bytes.ensures
+pub returns-in-Ok : goal.returns-in-Ok
+returns-in-Ok c =
+    placed_done _ _ _ _ _ _ c.requires.5 _ _ _ c.allocate.ensures _ _ _ c.requires.4 c.in-Ok.is c.copy_bytes.ensures
 
-pub returns-in-Refused : goal.returns-in-Refused
-returns-in-Refused c =
-    placed_refused _ _ _ _ _ _ c.requires.5 _ _ _ c.allocate.ensures _ _ _ _ _ c.in-Refused.is (emptied 512 c.args.units.now _ c.requires.0 c.clear.ensures)
-    (cleared_row 2048 _ _ c.requires.1 c.clear-in-Refused.ensures) (cleared_row 1024 _ _ c.requires.2 c.clear-in-Refused-2.ensures)
-    (cleared_row 1024 _ _ c.requires.3 c.clear-in-Refused-3.ensures)
+pub returns-in-Err : goal.returns-in-Err
+returns-in-Err c =
+    placed_refused _ _ _ _ _ _ c.requires.5 _ _ _ c.allocate.ensures _ _ _ _ _ c.in-Err.is (emptied 512 c.args.units.now _ c.requires.0 c.clear.ensures)
+    (cleared_row 2048 _ _ c.requires.1 c.clear-in-Err.ensures) (cleared_row 1024 _ _ c.requires.2 c.clear-in-Err-2.ensures)
+    (cleared_row 1024 _ _ c.requires.3 c.clear-in-Err-3.ensures)

@@ -4,8 +4,8 @@ use mathlib.Core.Path.{refl}
 use Rattle.entry.proofs.Laws.{answers}
 use Rattle.entry.proofs.check_file.Goals as goal
 
-pub returns-in-Units : goal.returns-in-Units
-returns-in-Units c = answers _ _ _ _ _ _ c.check.ensures c.in-Units.is refl
+pub returns-in-Ok : goal.returns-in-Ok
+returns-in-Ok c = answers _ _ _ _ _ _ c.check.ensures c.in-Ok.is refl
 
-pub returns-in-Refused : goal.returns-in-Refused
-returns-in-Refused c = answers _ _ _ _ _ _ c.check.ensures c.in-Refused.is c.pack.ensures
+pub returns-in-Err : goal.returns-in-Err
+returns-in-Err c = answers _ _ _ _ _ _ c.check.ensures c.in-Err.is c.pack.ensures

@@ -4,11 +4,11 @@ use mathlib.Core.Path.{refl}
 use Rattle.entry.proofs.Laws.{says}
 use Rattle.entry.proofs.effect_at.Goals as goal
 
-pub returns-in-Yes : goal.returns-in-Yes
-returns-in-Yes c = says _ _ _ _ _ _ _ c.observable_effect.ensures c.in-Yes.is refl
+pub returns-in-Ok : goal.returns-in-Ok
+returns-in-Ok c = says _ _ _ _ _ _ _ c.observable_effect.ensures c.in-Ok.is refl
 
-pub returns-in-No : goal.returns-in-No
-returns-in-No c = says _ _ _ _ _ _ _ c.observable_effect.ensures c.in-No.is refl
+pub returns-in-Ok : goal.returns-in-Ok
+returns-in-Ok c = says _ _ _ _ _ _ _ c.observable_effect.ensures c.in-Ok.is refl
 
-pub returns-in-Refused : goal.returns-in-Refused
-returns-in-Refused c = says _ _ _ _ _ _ _ c.observable_effect.ensures c.in-Refused.is c.pack.ensures
+pub returns-in-Err : goal.returns-in-Err
+returns-in-Err c = says _ _ _ _ _ _ _ c.observable_effect.ensures c.in-Err.is c.pack.ensures

@@ -3,5 +3,5 @@
 use Rattle.entry.proofs.Laws.{filled_refused}
 use Rattle.entry.proofs.filled.Goals as goal
 
-pub returns-in-Refused : goal.returns-in-Refused
-returns-in-Refused c = filled_refused _ _ _ c.in-Refused.is c.pack.ensures
+pub returns-in-Err : goal.returns-in-Err
+returns-in-Err c = filled_refused _ _ _ c.in-Err.is c.pack.ensures

@@ -4,8 +4,8 @@ use mathlib.Core.Path.{refl}
 use Rattle.entry.proofs.Laws.{draws}
 use Rattle.entry.proofs.graph_of.Goals as goal
 
-pub returns-in-Passes : goal.returns-in-Passes
-returns-in-Passes c = draws _ _ _ _ _ _ _ _ _ _ _ _ c.graph.ensures c.in-Passes.is refl
+pub returns-in-Ok : goal.returns-in-Ok
+returns-in-Ok c = draws _ _ _ _ _ _ _ _ _ _ _ _ c.graph.ensures c.in-Ok.is refl
 
-pub returns-in-Refused : goal.returns-in-Refused
-returns-in-Refused c = draws _ _ _ _ _ _ _ _ _ _ _ _ c.graph.ensures c.in-Refused.is c.pack.ensures
+pub returns-in-Err : goal.returns-in-Err
+returns-in-Err c = draws _ _ _ _ _ _ _ _ _ _ _ _ c.graph.ensures c.in-Err.is c.pack.ensures

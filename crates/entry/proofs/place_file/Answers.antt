@@ -4,8 +4,8 @@ use mathlib.Core.Path.{refl}
 use Rattle.entry.proofs.Laws.{puts}
 use Rattle.entry.proofs.place_file.Goals as goal
 
-pub returns-in-Done : goal.returns-in-Done
-returns-in-Done c = puts _ _ _ _ _ _ _ _ _ _ _ _ _ _ c.place.ensures c.in-Done.is refl
+pub returns-in-Ok : goal.returns-in-Ok
+returns-in-Ok c = puts _ _ _ _ _ _ _ _ _ _ _ _ _ _ c.place.ensures c.in-Ok.is refl
 
-pub returns-in-Refused : goal.returns-in-Refused
-returns-in-Refused c = puts _ _ _ _ _ _ _ _ _ _ _ _ _ _ c.place.ensures c.in-Refused.is c.pack.ensures
+pub returns-in-Err : goal.returns-in-Err
+returns-in-Err c = puts _ _ _ _ _ _ _ _ _ _ _ _ _ _ c.place.ensures c.in-Err.is c.pack.ensures

@@ -11,7 +11,7 @@ pub graph_of-requires : goal.graph_of-requires
 graph_of-requires c =
     let bytes : (i : ℕ) → get_or c.args.file.now i 0 < 256 = λ i. omega (arith, c.type_inv.file i) in
     let h = c.number_units.ensures in
-    let e = c.in-Units.is in (
+    let e = c.in-Ok.is in (
       counted_short _ _ _ _ _ h bytes _ e,
       counted_header _ _ _ _ _ h bytes _ e,
       search rules,
@@ -24,11 +24,11 @@ graph_of-requires c =
       counted_of _ _ _ _ _ h bytes _ e,
     )
 
-pub returns-in-Refused : goal.returns-in-Refused
-returns-in-Refused c =
-    drawn_refused _ _ _ _ _ c.number_units.ensures _ _ _ _ c.in-Refused.is (blank_of 2048 _ _ c.requires.1 c.clear.ensures) (blank_of 1024 _ _ c.requires.2 c.clear-2.ensures) (blank_of 1024 _ _ c.requires.3 c.clear-3.ensures)
+pub returns-in-Err : goal.returns-in-Err
+returns-in-Err c =
+    drawn_refused _ _ _ _ _ c.number_units.ensures _ _ _ _ c.in-Err.is (blank_of 2048 _ _ c.requires.1 c.clear.ensures) (blank_of 1024 _ _ c.requires.2 c.clear-2.ensures) (blank_of 1024 _ _ c.requires.3 c.clear-3.ensures)
 
-pub returns-in-Units : goal.returns-in-Units
-returns-in-Units c =
+pub returns-in-Ok : goal.returns-in-Ok
+returns-in-Ok c =
     let bytes : (i : ℕ) → get_or c.args.file.now i 0 < 256 = λ i. omega (arith, c.type_inv.file i) in
-    drawn_done _ _ _ _ _ c.number_units.ensures bytes _ c.in-Units.is _ _ _ _ c.graph_of.ensures
+    drawn_done _ _ _ _ _ c.number_units.ensures bytes _ c.in-Ok.is _ _ _ _ c.graph_of.ensures

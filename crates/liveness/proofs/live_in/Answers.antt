@@ -8,13 +8,13 @@ use Rattle.liveness.proofs.live_in.Goals as goal
 
 pub live_of-requires : goal.live_of-requires
 live_of-requires c =
-    let a = numbered_units c.args.file.now 0 _ _ _ _ c.number_units.ensures (λ i. omega (arith, c.type_inv.file i)) _ c.in-Units.is in
+    let a = numbered_units c.args.file.now 0 _ _ _ _ c.number_units.ensures (λ i. omega (arith, c.type_inv.file i)) _ c.in-Ok.is in
     (a.short, search rules, a.sane, search rules, blank_of _ _ c.requires.1 c.clear.ensures)
 
-pub returns-in-Refused : goal.returns-in-Refused
-returns-in-Refused c = lived_refused _ _ _ _ _ _ c.number_units.ensures _ _ c.in-Refused.is (blank_of _ _ c.requires.1 c.clear.ensures)
+pub returns-in-Err : goal.returns-in-Err
+returns-in-Err c = lived_refused _ _ _ _ _ _ c.number_units.ensures _ _ c.in-Err.is (blank_of _ _ c.requires.1 c.clear.ensures)
 
-pub returns-in-Units : goal.returns-in-Units
-returns-in-Units c =
-    let a = numbered_units c.args.file.now c.args.number _ _ _ _ c.number_units.ensures (λ i. omega (arith, c.type_inv.file i)) _ c.in-Units.is in
+pub returns-in-Ok : goal.returns-in-Ok
+returns-in-Ok c =
+    let a = numbered_units c.args.file.now c.args.number _ _ _ _ c.number_units.ensures (λ i. omega (arith, c.type_inv.file i)) _ c.in-Ok.is in
     lived_done _ _ _ _ _ a _ _ _ c.live_of.ensures

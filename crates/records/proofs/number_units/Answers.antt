@@ -13,10 +13,10 @@ pub walk-requires : goal.walk-requires
 walk-requires c =
     (c.if-file-gt16384.false, c.clear.ensures ∙ cleared _ c.requires.0, c.requires.1, c.blank.ensures)
 
-pub returns-in-Units : goal.returns-in-Units
-returns-in-Units c = numbering_units _ _ _ _ _ c.walk.ensures _ c.in-Units.is
+pub returns-in-Ok : goal.returns-in-Ok
+returns-in-Ok c = numbering_units _ _ _ _ _ c.walk.ensures _ c.in-Ok.is
 
-pub returns-in-Refused : goal.returns-in-Refused
-returns-in-Refused c =
+pub returns-in-Err : goal.returns-in-Err
+returns-in-Err c =
     let w = c.walk in
-    numbering_refused _ _ _ _ _ w.ensures _ _ (length w.new.words) c.in-Refused.is c.clear-in-Refused.ensures (search rules)
+    numbering_refused _ _ _ _ _ w.ensures _ _ (length w.new.words) c.in-Err.is c.clear-in-Err.ensures (search rules)

@@ -17,19 +17,19 @@ pub find_step-requires : goal.find_step-requires
 find_step-requires c = (length-take-le 512 c.args.units.now (search rules), search rules, search rules)
 
 pub tail_of-requires : goal.tail_of-requires
-tail_of-requires c = omega (arith, (reached _ _ _ _ _ _ c.find_step.ensures _ _ c.in-Here.is).sound.2)
+tail_of-requires c = omega (arith, (reached _ _ _ _ _ _ c.find_step.ensures _ _ c.in-Ok.is).sound.2)
 
 pub effect_at-requires : goal.effect_at-requires
 effect_at-requires c =
-    let h = reached _ _ _ _ _ _ c.find_step.ensures _ _ c.in-Here.is in
+    let h = reached _ _ _ _ _ _ c.find_step.ensures _ _ c.in-Ok.is in
     omega (arith, h.sound.2, c.tail_of.ensures.1)
 
-pub returns-in-Here : goal.returns-in-Here
-returns-in-Here c =
-    let h = reached _ _ _ _ _ _ c.find_step.ensures _ _ c.in-Here.is in
+pub returns-in-Ok : goal.returns-in-Ok
+returns-in-Ok c =
+    let h = reached _ _ _ _ _ _ c.find_step.ensures _ _ c.in-Ok.is in
     tells_here _ _ _ (search rules) _ _ _ _ _ _ _ h c.tail_of.ensures.0 c.effect_at.ensures
 
-pub returns-in-Refused : goal.returns-in-Refused
-returns-in-Refused c =
-    let h = sought_refused _ _ _ _ _ _ c.find_step.ensures _ c.in-Refused.is in
+pub returns-in-Err : goal.returns-in-Err
+returns-in-Err c =
+    let h = sought_refused _ _ _ _ _ _ c.find_step.ensures _ c.in-Err.is in
     tells_refused _ _ _ (search rules) _ [] [] _ h.0 h.1

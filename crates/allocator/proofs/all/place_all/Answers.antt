@@ -65,11 +65,11 @@ pub overflow_add-n : goal.overflow_add-n
 overflow_add-n c =
     omega (arith, room_left c.loop-list.invariant _ _ _ _ c.tail_of.ensures.0 c.opens_storage.ensures c.loop-list-test.true c.tail_of-in-loop-list.ensures.0 c.storage_at-s.ensures)
 
-pub returns-in-Refused : goal.returns-in-Refused
-returns-in-Refused c =
+pub returns-in-Err : goal.returns-in-Err
+returns-in-Err c =
     let f = c.args.file.now in
     let q = opened f _ c.loop-list.at _ _ c.tail_of.ensures.0 c.opens_storage.ensures c.loop-list-test.true in
-    going_refused c.loop-list.invariant _ _ c.tail_of-in-loop-list.ensures.0 c.storage_at-s.ensures q _ _ _ _ _ _ _ c.place_one.ensures _ c.in-Refused.is
+    going_refused c.loop-list.invariant _ _ c.tail_of-in-loop-list.ensures.0 c.storage_at-s.ensures q _ _ _ _ _ _ _ c.place_one.ensures _ c.in-Err.is
 
 pub overflow_add-at : goal.overflow_add-at
 overflow_add-at c =

@@ -5,10 +5,10 @@ use Rattle.io.proofs.Counting.{prefix_len_of_le}
 use Rattle.lines.proofs.Joined.{refused_text_lem}
 use Rattle.lines.proofs.answer.put_answer.Goals as goal
 
-pub returns-in-Units : goal.returns-in-Units
-returns-in-Units c = record { ends = prefix_len_of_le _ _ (search rules); text = cc }
+pub returns-in-Ok : goal.returns-in-Ok
+returns-in-Ok c = record { ends = prefix_len_of_le _ _ (search rules); text = cc }
 
-pub returns-in-Refused : goal.returns-in-Refused
-returns-in-Refused c =
-    let known = c.in-Refused.is in
+pub returns-in-Err : goal.returns-in-Err
+returns-in-Err c =
+    let known = c.in-Err.is in
     record { ends = prefix_len_of_le _ _ (search rules); text = refused_text_lem _ _ _ known c.put_refusal.ensures.text }

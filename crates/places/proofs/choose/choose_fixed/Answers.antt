@@ -1,5 +1,6 @@
 -- The kind is held to the placement's own code first, as in the definition.
 -- After it the room decides.
+use Rattle.std.specs.Prelude.{Ok, Err}
 use mathlib.Core.Path.{◌≡◌, sym, ap, ◌∙◌}
 use mathlib.Core.Bool.{Bool, true, false}
 use Prim.Native.Nat.{ℕ}
@@ -10,7 +11,6 @@ use Rattle.storages.specs.declared.Storage.{Storage}
 use Rattle.storages.specs.Placement.{code_of}
 use Rattle.storages.specs.Storage.{kind_matches, alone}
 use Rattle.storages.specs.Room.{room}
-use Rattle.places.specs.declared.choose.Chosen.TheVariants.{Spot, Refused}
 use Rattle.places.specs.Memory.{Maps, clear_room}
 use Rattle.places.specs.Place.{choose_fixed}
 use borrow.Author.Rules.{rules}
@@ -20,15 +20,15 @@ module _ (s : Storage) (p : Placement) (m : Maps) (code : ℕ) (k : Bool) (e : c
   matched : kind_matches s.kind s.len (code_of p) ≡ k
   matched = sym (h ∙ ap (kind_matches s.kind s.len) e)
 
-  when-bad : k ≡ false → Refused (BadFixed s.id) ≡ choose_fixed s p m
+  when-bad : k ≡ false → Err (BadFixed s.id) ≡ choose_fixed s p m
   unfolding choose_fixed
   when-bad f = sym (pick_no _ _ _ (matched ∙ f))
 
-  when-open : k ≡ true → (t : Bool) → t ≡ (clear_room m (room s.len p) and alone s.len p) → t ≡ true → Spot p ≡ choose_fixed s p m
+  when-open : k ≡ true → (t : Bool) → t ≡ (clear_room m (room s.len p) and alone s.len p) → t ≡ true → Ok p ≡ choose_fixed s p m
   unfolding choose_fixed
   when-open f t a b = sym (pick_yes _ _ _ (matched ∙ f) ∙ pick_yes _ _ _ (sym a ∙ b))
 
-  when-shut : k ≡ true → (t : Bool) → t ≡ (clear_room m (room s.len p) and alone s.len p) → t ≡ false → Refused (Conflict s.id) ≡ choose_fixed s p m
+  when-shut : k ≡ true → (t : Bool) → t ≡ (clear_room m (room s.len p) and alone s.len p) → t ≡ false → Err (Conflict s.id) ≡ choose_fixed s p m
   unfolding choose_fixed
   when-shut f t a b = sym (pick_yes _ _ _ (matched ∙ f) ∙ pick_no _ _ _ (sym a ∙ b))
 

@@ -56,11 +56,11 @@ take_bit-requires-in-Work-space c =
     c.requires
 
 -- A room whose space is known is taken in that space's map; the other map stays.
-pub returns-in-Nowhere : goal.returns-in-Nowhere
+pub returns-in-None : goal.returns-in-None
 unfolding reserve
-returns-in-Nowhere c =
+returns-in-None c =
     let a = c.args in
-    sym (ap (λ (r : Room). reserve r (record { app = a.app.now; wrk = a.work.now })) c.in-Nowhere.is)
+    sym (ap (λ (r : Room). reserve r (record { app = a.app.now; wrk = a.work.now })) c.in-None.is)
 
 pub returns-in-App : goal.returns-in-App
 returns-in-App c =

@@ -1,10 +1,10 @@
 -- An instruction stands in a block and its numbers are in range; then it is open with its fields, and no list changes.
 -- Each other way out is the refusal of that test.
+use Rattle.std.specs.Prelude.{Ok}
 use mathlib.Core.Path.{sym, ap, ◌∙◌}
 use Rattle.fields.specs.Fields.{fields_of}
 use Rattle.fields.specs.Record.{instruction_at, u8_at}
 use Rattle.records.specs.Step.{opened, admit}
-use Rattle.records.specs.declared.reader.Taken.TheVariants.{Next}
 use Rattle.fields.proofs.TableLaws.{fields_short}
 use Rattle.records.proofs.Held.{stage_is, stage_not, holds_opened}
 use Rattle.records.proofs.Comings.{comes_order, comes_range, comes_admit}
@@ -19,7 +19,7 @@ unfolding instruction_at u8_at admit
 returns-then-instruction_fits c =
     λ s is fs bs ws hs ns ks e h.
     comes_admit s _ (instruction_at c.args.tail.now) _ _ (stage_is _ s e _ c.if-c-ne-IN_BLOCK.false) (sym c.instruction_fits.ensures ∙ c.if-instruction_fits.true) (
-      ap Next (c.with_now.ensures.2 s (opened _ (fields_of _) 0 0) e (c.open_at-now.ensures (fields_of _) c.entry_of.ensures (fields_short _))),
+      ap Ok (c.with_now.ensures.2 s (opened _ (fields_of _) 0 0) e (c.open_at-now.ensures (fields_of _) c.entry_of.ensures (fields_short _))),
       holds_opened s is fs bs ws hs ns ks h _ _,
     )
 

@@ -1,9 +1,9 @@
 -- A target goes to what is open while that takes one more; then it has one more, and no list changes.
 -- Where it takes no more, the record is refused.
+use Rattle.std.specs.Prelude.{Ok}
 use mathlib.Core.Path.{refl, ap}
 use Rattle.fields.specs.Record.{target}
 use Rattle.records.specs.Step.{with_target, admit}
-use Rattle.records.specs.declared.reader.Taken.TheVariants.{Next}
 use Rattle.records.proofs.Held.{now_of, targets_more, targets_full, reader_kept, holds_opened}
 use Rattle.records.proofs.Comings.{comes_order, comes_admit}
 use Rattle.records.proofs.step.take_target.Goals as goal
@@ -13,7 +13,7 @@ unfolding admit
 returns-then-o c =
     λ s id is fs bs ws hs ns ks e h.
     comes_admit s _ (target id) _ _ (targets_more _ s e c.if-o.true) refl (
-      ap Next (reader_kept _ s e _ _ (c.with_now.ensures.2 s (with_target s.now) e (c.with_target.ensures s.now (now_of _ s e)))),
+      ap Ok (reader_kept _ s e _ _ (c.with_now.ensures.2 s (with_target s.now) e (c.with_target.ensures s.now (now_of _ s e)))),
       holds_opened s is fs bs ws hs ns ks h _ _,
     )
 

@@ -4,6 +4,7 @@ use mathlib.Core.Path.{refl}
 use Rattle.fields.specs.Record.{u8_at}
 use borrow.Author.Rules.{rules}
 use native.Mathlib.Omega.{arith}
+use Rattle.std.proofs.lemmas.Result.{err_from_is_err_and}
 use Rattle.records.proofs.Reading.{at_most, reading_start, reading_sane, kind_low, not_whole, whole_kind, reading_fault, reading_refused, reading_on, reading_done, reading_open}
 use Rattle.records.proofs.walk.walk.Goals as goal
 
@@ -22,13 +23,14 @@ step_on-requires c =
     let w = c.is_cut.ensures.1 c.if-is_cut.false in
     (omega (arith, c.length_of-len.ensures, w.1), kind_low _ _ c.length_of-len.ensures w.0, reading_sane _ _ _ _ _ _ _ _ _ _ l.invariant.7 l.invariant.1 l.invariant.6)
 
-pub returns-in-Refused : goal.returns-in-Refused
+pub returns-in_err-c : goal.returns-in_err-c
 unfolding u8_at
-returns-in-Refused c =
+returns-in_err-c c =
     let l = c.loop-at in
     let w = c.is_cut.ensures.1 c.if-is_cut.false in
-    reading_refused _ _ _ _ _ _ _ _ _ _ l.invariant.7 l.invariant.1 _ c.tail_of-tail.ensures.0 c.loop-at-test.true _ (whole_kind _ _ _ refl c.length_of-len.ensures w.0 w.1) _ _ _ _ _ _ _ _
-    (c.step_on.ensures l.invariant.7.state l.invariant.7.is l.invariant.7.kept refl l.invariant.7.holds) _ c.in-Refused.is
+    let p = err_from_is_err_and c.from_residual.result c.from_residual.ensures.1 in
+    rw (p.1, p.2) (reading_refused _ _ _ _ _ _ _ _ _ _ l.invariant.7 l.invariant.1 _ c.tail_of-tail.ensures.0 c.loop-at-test.true _ (whole_kind _ _ _ refl c.length_of-len.ensures w.0 w.1) _ _ _ _ _ _ _ _
+    (c.step_on.ensures l.invariant.7.state l.invariant.7.is l.invariant.7.kept refl l.invariant.7.holds) _ c.in_err-c.was)
 
 pub overflow_add-at : goal.overflow_add-at
 overflow_add-at c =
@@ -54,7 +56,7 @@ loop-at-preserved c =
       search rules,
       search rules,
       let w = c.is_cut.ensures.1 c.if-is_cut.false in
-          reading_on _ _ _ _ _ _ _ _ _ _ l.invariant.7 l.invariant.1 _ c.tail_of-tail.ensures.0 c.loop-at-test.true _ (whole_kind _ _ _ refl c.length_of-len.ensures w.0 w.1) _ _ _ _ _ _ _ _ (c.step_on.ensures l.invariant.7.state l.invariant.7.is l.invariant.7.kept refl l.invariant.7.holds) _ c.in-Next.is,
+          reading_on _ _ _ _ _ _ _ _ _ _ l.invariant.7 l.invariant.1 _ c.tail_of-tail.ensures.0 c.loop-at-test.true _ (whole_kind _ _ _ refl c.length_of-len.ensures w.0 w.1) _ _ _ _ _ _ _ _ (c.step_on.ensures l.invariant.7.state l.invariant.7.is l.invariant.7.kept refl l.invariant.7.holds) _ c.in_ok-c.was,
     )
 
 pub returns-then-c-eq-AT_END : goal.returns-then-c-eq-AT_END

@@ -9,20 +9,20 @@ use Rattle.turns.proofs.turn.take_own.Goals as goal
 
 pub take_room-requires : goal.take_room-requires
 take_room-requires c =
-    subst (Inside _ _) (sym c.room_of.ensures) (chosen_inside c.args.s _ _ _ c.in-Spot.p c.requires.8 c.choose.ensures c.in-Spot.is)
+    subst (Inside _ _) (sym c.room_of.ensures) (chosen_inside c.args.s _ _ _ c.in-Ok.p c.requires.8 c.choose.ensures c.in-Ok.is)
 
 pub note-requires : goal.note-requires
 note-requires c =
     (c.requires.6, number_low _ _ _ c.requires.9 c.number_for.ensures, c.requires.0, c.requires.1, c.requires.2, c.requires.3)
 
-pub returns-in-Refused : goal.returns-in-Refused
-returns-in-Refused c =
-    λ g x list ll lo hi h. ap (take_room c.args.s x) (chosen_is c.args.s _ _ g x _ _ h.app_is h.wrk_is (c.choose.ensures g lo hi) c.in-Refused.is)
+pub returns-in-Err : goal.returns-in-Err
+returns-in-Err c =
+    λ g x list ll lo hi h. ap (take_room c.args.s x) (chosen_is c.args.s _ _ g x _ _ h.app_is h.wrk_is (c.choose.ensures g lo hi) c.in-Err.is)
 
-pub returns-in-Spot : goal.returns-in-Spot
-returns-in-Spot c =
+pub returns-in-Ok : goal.returns-in-Ok
+returns-in-Ok c =
     λ g x list ll lo hi h.
-    taken_turned c.args.s x _ _ list _ _ _ _ _ _ h c.requires.0 c.requires.1 c.requires.2 c.requires.6 c.requires.7 _ _ _ _ _ c.in-Spot.p
+    taken_turned c.args.s x _ _ list _ _ _ _ _ _ h c.requires.0 c.requires.1 c.requires.2 c.requires.6 c.requires.7 _ _ _ _ _ c.in-Ok.p
     c.note.ensures.0 c.note.ensures.1 c.note.ensures.2 c.note.ensures.3 _ _ _ ll c.number_for.ensures
     c.room_of.ensures c.take_room.ensures _ _
-    (ap (take_room c.args.s x) (chosen_is c.args.s _ _ g x _ _ h.app_is h.wrk_is (c.choose.ensures g lo hi) c.in-Spot.is)) c.opens.ensures
+    (ap (take_room c.args.s x) (chosen_is c.args.s _ _ g x _ _ h.app_is h.wrk_is (c.choose.ensures g lo hi) c.in-Ok.is)) c.opens.ensures

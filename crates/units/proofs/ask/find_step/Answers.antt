@@ -8,16 +8,16 @@ use Rattle.units.proofs.ask.find_step.Goals as goal
 
 pub locate-requires : goal.locate-requires
 locate-requires c =
-    (numbered_units c.args.file.now 0 _ _ _ _ c.number_units.ensures (λ i. omega (arith, c.type_inv.file i)) _ c.in-Units.is).short
+    (numbered_units c.args.file.now 0 _ _ _ _ c.number_units.ensures (λ i. omega (arith, c.type_inv.file i)) _ c.in-Ok.is).short
 
-pub returns-in-At : goal.returns-in-At
-returns-in-At c =
-    seeks_here c.args.file.now _ _ _ _ _ c.number_units.ensures (λ i. omega (arith, c.type_inv.file i)) _ c.in-Units.is _ c.locate.ensures.0 c.locate.ensures.1 _ _ c.in-At.is
+pub returns-in-Some : goal.returns-in-Some
+returns-in-Some c =
+    seeks_here c.args.file.now _ _ _ _ _ c.number_units.ensures (λ i. omega (arith, c.type_inv.file i)) _ c.in-Ok.is _ c.locate.ensures.0 c.locate.ensures.1 _ _ c.in-Some.is
 
-pub returns-in-Nowhere : goal.returns-in-Nowhere
-returns-in-Nowhere c =
+pub returns-in-None : goal.returns-in-None
+returns-in-None c =
     let u = c.number_units in
-    seeks_absent c.args.file.now _ _ _ _ _ u.ensures (λ i. omega (arith, c.type_inv.file i)) _ c.in-Units.is _ c.locate.ensures.0 c.locate.ensures.1 _ (length u.new.words) c.in-Nowhere.is c.clear.ensures (search rules)
+    seeks_absent c.args.file.now _ _ _ _ _ u.ensures (λ i. omega (arith, c.type_inv.file i)) _ c.in-Ok.is _ c.locate.ensures.0 c.locate.ensures.1 _ (length u.new.words) c.in-None.is c.clear.ensures (search rules)
 
-pub returns-in-Refused : goal.returns-in-Refused
-returns-in-Refused c = seeks_refused _ _ _ _ _ _ c.number_units.ensures _ c.in-Refused.is
+pub returns-in-Err : goal.returns-in-Err
+returns-in-Err c = seeks_refused _ _ _ _ _ _ c.number_units.ensures _ c.in-Err.is

@@ -4,8 +4,8 @@ use borrow.Author.Rules.{rules}
 use Rattle.units.proofs.Asking.{gives_done, gives_refused}
 use Rattle.units.proofs.ask.give_row.Goals as goal
 
-pub returns-in-Done : goal.returns-in-Done
-returns-in-Done c = gives_done _ _ _ _ _ c.in-Done.is (search rules) c.copy_row.ensures
+pub returns-in-Ok : goal.returns-in-Ok
+returns-in-Ok c = gives_done _ _ _ _ _ c.in-Ok.is (search rules) c.copy_row.ensures
 
-pub returns-in-Refused : goal.returns-in-Refused
-returns-in-Refused c = gives_refused _ _ _ _ _ c.in-Refused.is
+pub returns-in-Err : goal.returns-in-Err
+returns-in-Err c = gives_refused _ _ _ _ _ c.in-Err.is

@@ -6,13 +6,13 @@ use Rattle.units.proofs.ask.rows_at.Goals as goal
 
 pub uses_at-requires : goal.uses_at-requires
 uses_at-requires c =
-    let r = reached _ _ _ _ _ _ c.find_step.ensures _ _ c.in-Here.is in
+    let r = reached _ _ _ _ _ _ c.find_step.ensures _ _ c.in-Ok.is in
     (r.short, search rules, r.sane, r.sound.0, r.sound.1, r.sound.2, search rules, search rules)
 
-pub returns-in-Here : goal.returns-in-Here
-returns-in-Here c =
-    let r = reached _ _ _ _ _ _ c.find_step.ensures _ _ c.in-Here.is in
+pub returns-in-Ok : goal.returns-in-Ok
+returns-in-Ok c =
+    let r = reached _ _ _ _ _ _ c.find_step.ensures _ _ c.in-Ok.is in
     shows_done _ _ _ _ _ _ _ _ r _ _ c.uses_at.ensures.4
 
-pub returns-in-Refused : goal.returns-in-Refused
-returns-in-Refused c = sought_refused _ _ _ _ _ _ c.find_step.ensures _ c.in-Refused.is
+pub returns-in-Err : goal.returns-in-Err
+returns-in-Err c = sought_refused _ _ _ _ _ _ c.find_step.ensures _ c.in-Err.is
