@@ -1,6 +1,6 @@
 -- The packed number says what an operation answered, since each operation's contract is an equation with its one outcome.
 -- So each law takes that equation apart, field by field.
-use Rattle.std.specs.Prelude.{Result, Err, Unit, Bool}
+use Rattle.std.specs.Prelude.{Result, Err, Bool}
 use mathlib.Core.Path.{◌≡◌, sym, ap, ◌∙◌}
 use Prim.Native.Nat.{ℕ}
 use mathlib.Core.List.{List}

@@ -1,5 +1,5 @@
 -- The answers of the public operations as one number.
-use Rattle.std.specs.Prelude.{◌≡◌, ℕ, ◌+◌, ◌*◌, ◌%◌, List, Result, Ok, Err, Unit, tt, true, false, Bool}
+use Rattle.std.specs.Prelude.{◌≡◌, ℕ, ◌+◌, ◌*◌, ◌%◌, List, Result, Ok, Err, true, false, Bool}
 use Rattle.fields.specs.Edition.{one}
 use Rattle.records.specs.Refusal.{number_of, value_of}
 use Rattle.records.specs.Outcome.{outcome}
