@@ -68,7 +68,12 @@ pub fn place_all(
 }
 
 // The placing of an accepted file, whose graph and copies stand in their rows. The application bytes below F are taken from the start.
-pub fn allocate(file: &[u8], graph: &[u64], copies: &[u64], out: &mut [u8]) -> Result<Allocated, Refusal>
+pub fn allocate(
+    file: &[u8],
+    graph: &[u64],
+    copies: &[u64],
+    out: &mut [u8],
+) -> Result<Allocated, Refusal>
     requires { (7 ≤ length file.now) × (header_fits (u16_at file.now 1) (u16_at file.now 3) (u16_at file.now 5) ≡ true) × Fit file.now
         × (length graph.now ≡ 1024) × (length copies.now ≡ 1024) × (out.old ≡ laid 2048 [] []) }
     ensures { (g : Given) → Tells g graph.now copies.now → g.lo ≡ 0 → g.hi ≡ u16_at file.now 1
