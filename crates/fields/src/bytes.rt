@@ -1,7 +1,7 @@
 // Numbers in bytes, and the part of the file from a record's start onward.
-ghost use Rattle.std.specs.Prelude.{◌≡◌, ◌+◌, ◌<◌, ◌≤◌, length, drop};
+ghost use Rattle.std.specs.Prelude.{◌≡◌, ◌+◌, ◌<◌, ◌≤◌, ◌↔◌, ◌⊎◌, length, drop, IfSome, IsNone};
 ghost use Rattle.fields.specs.Edition.{one};
-ghost use Rattle.fields.specs.Record.{u16_at, length_of};
+ghost use Rattle.fields.specs.Record.{u8_at, u16_at, length_of};
 
 fn wide(b: u8) -> u16
     ensures { (result ≡ b) × (result < 256) }
@@ -42,4 +42,17 @@ pub fn length_of(kind: u8) -> usize
         9 => 1,
         _ => 0,
     }
+}
+
+// How long the record at the front of a tail is, if one stands there whole: its kind is one of the ten, and its last byte is there.
+#[tactic(auto, unfolding(crate::specs::Record::u8_at))]
+pub fn whole_record(tail: &[u8]) -> Option<usize>
+    ensures whole { IfSome result (λ len. (0 < len) × (len ≤ length tail.now) × (len ≡ length_of one (u8_at tail.now 0))) }
+    ensures cut { IsNone result ↔ ((length_of one (u8_at tail.now 0) ≡ 0) ⊎ (length tail.now < length_of one (u8_at tail.now 0))) }
+{
+    let len = length_of(*tail.first()?);
+    if len == 0 || tail.len() < len {
+        return None;
+    }
+    Some(len)
 }
