@@ -2,11 +2,12 @@
 -- than six fields (`fields_short`, `end_fields_short`), and what is past the tables has none (`fields_none`, `branch_none`). Assumes nothing.
 use mathlib.Core.Path.{◌≡◌, refl, sym, ap, ◌∙◌}
 use mathlib.Core.Bool.{Bool, true, false}
-use mathlib.Core.List.{List, [], ◌∷◌}
+use mathlib.Core.List.{List, [], ◌∷◌, ◌++◌, map}
 use Prim.Native.Nat.{ℕ, zero, suc, ◌+◌, ◌*◌, ◌/◌, ◌%◌, ◌^◌, ◌≤◌, ◌<◌}
 use native.Mathlib.Omega.{arith}
 use native.Mathlib.Nat.{div-div-eq-div-mul, pow-succ', pow-le-pow_right, div-one, div-eq_of_lt, lt_of_lt_of_le, zero-div}
-use lib.ListN.{length, get_or, get_or-eq_default}
+use lib.ListN.{length, get_or, get_or-eq_default, get_or-map, get_or-append}
+use Rattle.std.proofs.lemmas.List.{get_or-append-add}
 use lib.Pow.{pow-add}
 use Rattle.fields.specs.Fields.{Class, Count, Field, no_field, D, Y, B, T, W, «V», O, single, optional, star, pair, none, r*, table, fields_of, branch_fields, end_fields_of, most, lacks, missing, takes, greatest, well_formed, field_at}
 use lib.Dec.{ltb, leb, eqb}
@@ -196,6 +197,23 @@ fields_none op l = get_or-eq_default table [] l
 pub branch_none : (sub : ℕ) → 8 ≤ sub → get_or branch_fields sub [] ≡ []
 unfolding branch_fields
 branch_none sub l = get_or-eq_default branch_fields [] l
+
+-- the entries of the constant: the operations', and behind them the branches' and Switch's
+unfoldable pub behind : List ℕ
+behind = map entry_of branch_fields ++ (entry_of (r* Y ∷ []) ∷ [])
+
+unfoldable pub entries : List ℕ
+entries = map entry_of table ++ behind
+
+pub entry_op : (op : ℕ) → op < 30 → get_or entries op 0 ≡ entry_of (fields_of op)
+unfolding entries table fields_of entry_of row_word missing
+entry_op op l = get_or-append (map entry_of table) behind 0 op l ∙ get_or-map entry_of table op []
+
+pub entry_branch : (sub : ℕ) → sub < 8 → get_or entries (30 + sub) 0 ≡ entry_of (get_or branch_fields sub [])
+unfolding entries behind table branch_fields entry_of row_word missing
+entry_branch sub l =
+    get_or-append-add (map entry_of table) behind sub 0
+    ∙ (get_or-append (map entry_of branch_fields) (entry_of (r* Y ∷ []) ∷ []) 0 sub l ∙ get_or-map entry_of branch_fields sub [])
 
 -- no row has more than six fields
 abbrev short : List (List Field) → Bool

@@ -3,18 +3,13 @@ ghost use Rattle.std.specs.Prelude.{◌≡◌, ◌+◌, ◌<◌, ◌≤◌, ◌�
 ghost use Rattle.fields.specs.Edition.{one};
 ghost use Rattle.fields.specs.Record.{u8_at, u16_at, length_of};
 
-fn wide(b: u8) -> u16
-    ensures { (result ≡ b) × (result < 256) }
-{
-    b as u16
-}
-
 // The little-endian number at byte `i` of a tail.
+#[tactic(auto, unfolding(crate::specs::Record::u16_at))]
 pub fn u16_at(tail: &[u8], i: usize) -> u16
     requires { i + 1 < length tail.now }
     ensures { result ≡ u16_at tail.now i }
 {
-    wide(tail[i]) + wide(tail[i + 1]) * 256
+    u16::from_le_bytes([tail[i], tail[i + 1]])
 }
 
 // The part of the file from a record's start onward.
@@ -26,6 +21,7 @@ pub fn tail_of(file: &[u8], at: usize) -> &[u8]
 }
 
 // How long a record is, with its kind byte; 0 for a number that is no kind.
+#[tactic(auto, unfolding(crate::specs::Record::length_of, crate::specs::Record::lengths, crate::specs::Pick::pick))]
 pub fn length_of(kind: u8) -> usize
     ensures { result ≡ length_of one kind }
 {
