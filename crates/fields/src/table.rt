@@ -69,14 +69,14 @@ fn branch_entry(sub: u8) -> u64
 }
 
 // The entry of a terminator.
-#[tactic(auto, unfolding(crate::specs::Pick::pick, crate::specs::Pick::times, crate::specs::Fields::table, crate::specs::Fields::fields_of, crate::specs::Fields::end_fields_of, crate::specs::Fields::missing, crate::specs::Table::byte_of, crate::specs::Table::row_word, crate::specs::Table::entry_of))]
+#[tactic(auto, using(crate::proofs::TableLaws::entry_none, crate::proofs::TableLaws::entry_switch), unfolding(crate::specs::Pick::pick, crate::specs::Fields::end_fields_of))]
 pub fn end_entry_of(op: u8, sub: u8) -> u64
     ensures { result ≡ entry_of (end_fields_of op sub) }
 {
     match op {
         1 => branch_entry(sub),
         2 => TABLE[38],
-        4 => TABLE[28],
+        4 => entry_of(28),
         _ => 0,
     }
 }
@@ -121,6 +121,7 @@ pub fn most_targets(op: u8) -> u16
 }
 
 // The field of a number, 0 past the row.
+#[tactic(auto, using(crate::proofs::TableLaws::byte_shifted, crate::proofs::TableLaws::byte_past))]
 pub fn field_in(row: u64, field: u8) -> u8
     ensures { result ≡ row / 256 ^ field % 256 }
 {
@@ -135,10 +136,10 @@ pub fn field_in(row: u64, field: u8) -> u8
 fn most_in(b: u8) -> u8
     ensures { result ≡ most_in b }
 {
-    match b / 8 % 4 {
-        _ if b == 0 => 0,
-        2 => 16,
-        3 => 2,
+    match (b, b / 8 % 4) {
+        (0, _) => 0,
+        (_, 2) => 16,
+        (_, 3) => 2,
         _ => 1,
     }
 }

@@ -1,11 +1,11 @@
 -- The constant has the entries of all rows, a branch's behind those of the operations; what is no branch has none.
 -- Assumes nothing.
-use mathlib.Core.Path.{sym, ap, ◌∙◌}
+use mathlib.Core.Path.{sym}
 use native.Mathlib.Omega.{arith}
 use Rattle.fields.specs.Pick.{pick, times}
 use Rattle.fields.specs.Fields.{table, branch_fields, missing}
 use Rattle.fields.specs.Table.{byte_of, row_word, entry_of}
-use Rattle.fields.proofs.TableLaws.{behind, entries, entry_branch, entry_none, branch_none}
+use Rattle.fields.proofs.TableLaws.{behind, entries, entry_branch, branch_past}
 use Rattle.fields.proofs.table.branch_entry.Goals as goal
 
 pub returns-in-0-to-7 : goal.returns-in-0-to-7
@@ -13,4 +13,4 @@ unfolding pick times table branch_fields missing byte_of row_word entry_of behin
 returns-in-0-to-7 c = entry_branch c.args.sub (omega arith)
 
 pub returns-in_default : goal.returns-in_default
-returns-in_default c = sym (ap entry_of (branch_none c.args.sub (omega arith)) ∙ entry_none)
+returns-in_default c = sym (branch_past c.args.sub (omega arith))
