@@ -20,6 +20,7 @@ pub fn header_fits(tail: &[u8]) -> bool
         && u16_at(tail, 5) <= 512
 }
 
+// The owner is one of 256 functions, or 65535 for the program.
 #[tactic(auto, unfolding(crate::specs::Record::owner_fits, crate::specs::Pick::pick))]
 fn owner_fits(owner: u16) -> bool
     ensures { result ≡ owner_fits owner }
@@ -27,6 +28,7 @@ fn owner_fits(owner: u16) -> bool
     owner == 65535 || owner < 256
 }
 
+// Kind 0 is a bit, 1 a byte, 2 bytes, 3 the carry: bytes alone have a length of their own.
 #[tactic(auto, unfolding(crate::specs::Record::kind_fits, crate::specs::Pick::pick))]
 fn kind_fits(kind: u8, len: u16) -> bool
     ensures { result ≡ kind_fits kind len }
@@ -81,7 +83,8 @@ pub fn storage_fits(tail: &[u8]) -> bool
         && fixed_fits(tail[11], u16_at(tail, 12), u16_at(tail, 14))
 }
 
-// The ABI record at the front of a tail: its role and shape, then its offset.
+// The ABI record at the front of a tail. A parameter (0) or a result (1) is a lane (1) or a bit (2), what is clobbered (2) an object (3); a lane alone has
+// an offset.
 #[tactic(auto, unfolding(crate::specs::Record::u8_at, crate::specs::Record::abi_in, crate::specs::Record::abi_fits, crate::specs::Pick::pick))]
 pub fn abi_fits(tail: &[u8]) -> bool
     requires { 7 ≤ length tail.now }
@@ -94,7 +97,7 @@ pub fn abi_fits(tail: &[u8]) -> bool
     }
 }
 
-// An operation, its sub and its callee.
+// An operation, its sub and its callee: FunctionAddress (17) and Call (27) alone have a callee, IntegerBinaryBytes (26) alone a sub.
 #[tactic(auto, unfolding(crate::specs::Fields::instruction_fits, crate::specs::Pick::pick))]
 pub fn instruction_fits(op: u8, sub: u8, callee: u8) -> bool
     ensures { result ≡ instruction_fits op sub callee }
@@ -107,7 +110,7 @@ pub fn instruction_fits(op: u8, sub: u8, callee: u8) -> bool
     }
 }
 
-// A terminator's operation, its sub and its callee.
+// A terminator's operation, its sub and its callee: TailCall (3) alone has a callee, Branch (1) alone a sub.
 #[tactic(auto, unfolding(crate::specs::Fields::terminator_fits, crate::specs::Pick::pick))]
 pub fn terminator_fits(op: u8, sub: u8, callee: u8) -> bool
     ensures { result ≡ terminator_fits op sub callee }

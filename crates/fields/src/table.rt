@@ -168,6 +168,7 @@ fn greatest_in(class: u8) -> u16
     if class == 4 { 1 } else { 255 }
 }
 
+// An immediate has id 0 and its value for offset, at most `top`; a lane has any offset, a bit and an object none.
 #[tactic(auto, unfolding(crate::specs::Fields::well_formed, crate::specs::Pick::pick))]
 fn well_formed(top: u16, shape: u8, id: u16, offset: u16) -> bool
     ensures { result ≡ well_formed top shape id offset }
