@@ -40,7 +40,7 @@ fn kind_fits(kind: u8, len: u16) -> bool
     }
 }
 
-// The greatest a and b of each fixed code.
+// The greatest a and b of each fixed code, from 0 (none) on.
 static GREATEST: [(u16, u16); 13] = [
     (0, 0),
     (0, 0),
@@ -83,8 +83,8 @@ pub fn storage_fits(tail: &[u8]) -> bool
         && fixed_fits(tail[11], u16_at(tail, 12), u16_at(tail, 14))
 }
 
-// The ABI record at the front of a tail. A parameter (0) or a result (1) is a lane (1) or a bit (2), what is clobbered (2) an object (3); a lane alone has
-// an offset.
+// The ABI record at the front of a tail. A parameter (0) or a result (1) is a lane (1) or a bit (2), what is clobbered (2) an object (3).
+// A lane alone has an offset.
 #[tactic(auto, unfolding(crate::specs::Record::u8_at, crate::specs::Record::abi_in, crate::specs::Record::abi_fits, crate::specs::Pick::pick))]
 pub fn abi_fits(tail: &[u8]) -> bool
     requires { 7 ≤ length tail.now }

@@ -6,6 +6,7 @@ ghost use Rattle.fields.specs.Table.{entry_of, most_in, takes_in, greatest_in};
 
 // A row for each operation, then for each branch and for Switch. A field is a byte: its class, 8 times its count (one, at most one, up to 16, none
 // or two), 32 if written, 64 if read. The highest byte of a row says how many operands there must be.
+// It is a static, so that a number indexes it where it stands.
 static TABLE: [u64; 39] = [
     0x0200000000004221, // 0 CopyByte
     0x0200000000004423, // 1 CopyBit
