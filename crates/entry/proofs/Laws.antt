@@ -11,7 +11,7 @@ use Rattle.allocator.specs.Placing as places
 use Rattle.allocator.specs.declared.Placing.{Placing}
 use Rattle.graph.specs.Graphs as graphs
 use Rattle.liveness.specs.Lives as lives
-use Rattle.entry.specs.Answer.{packed, count_of, filled_of, effect_of, passes_of, summed_of, placed_of, Answers, Fills, Says, Settles, Draws, Puts}
+use Rattle.entry.specs.Answer.{packed, count_of, filled_of, effect_of, placed_of, Answers, Fills, Says, Settles, Draws, Puts}
 
 pub answers : (f before words : List ℕ) (a b : Result ℕ Refusal) (r : ℕ) → Checks f before a words → a ≡ b → r ≡ count_of b → Answers f before r words
 answers f before words a b r h e p = (p ∙ ap count_of (sym e ∙ ap (λ (o : Outcome). o.answer) h), ap (λ (o : Outcome). o.words) h)
@@ -27,14 +27,14 @@ pub filled_refused : (a : Result (Unit {0}) Refusal) (x : Refusal) (n : ℕ) →
 filled_refused a x n e p = rw e p
 
 pub settles : (f : List ℕ) (number : ℕ) (before live units' live' : List ℕ) (a b : Result ℕ Refusal) (r : ℕ)
-    → lives.Lives f number before live a units' live' → a ≡ b → r ≡ passes_of b → Settles f number before live r units' live'
+    → lives.Lives f number before live a units' live' → a ≡ b → r ≡ count_of b → Settles f number before live r units' live'
 settles f number before live units' live' a b r h e p =
-    (p ∙ ap passes_of (sym e ∙ ap (λ (o : lives.Outcome). o.answer) h), ap (λ (o : lives.Outcome). o.units) h, ap (λ (o : lives.Outcome). o.live) h)
+    (p ∙ ap count_of (sym e ∙ ap (λ (o : lives.Outcome). o.answer) h), ap (λ (o : lives.Outcome). o.units) h, ap (λ (o : lives.Outcome). o.live) h)
 
 pub draws : (f before live graph copies units' live' graph' copies' : List ℕ) (a b : Result ℕ Refusal) (r : ℕ)
-    → graphs.Graphs f before live graph copies a units' live' graph' copies' → a ≡ b → r ≡ summed_of b → Draws f before live graph copies r units' live' graph' copies'
+    → graphs.Graphs f before live graph copies a units' live' graph' copies' → a ≡ b → r ≡ count_of b → Draws f before live graph copies r units' live' graph' copies'
 draws f before live graph copies units' live' graph' copies' a b r h e p = (
-  p ∙ ap summed_of (sym e ∙ ap (λ (o : graphs.Outcome). o.answer) h),
+  p ∙ ap count_of (sym e ∙ ap (λ (o : graphs.Outcome). o.answer) h),
   ap (λ (o : graphs.Outcome). o.units) h,
   ap (λ (o : graphs.Outcome). o.live) h,
   ap (λ (o : graphs.Outcome). o.graph) h,

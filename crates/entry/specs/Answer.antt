@@ -14,26 +14,19 @@ use Rattle.liveness.specs.Lives as lives
 abbrev pub packed : Refusal → ℕ
 packed r = number_of r * 4294967296 + value_of r % 4294967296
 
+-- Units, or passes.
 abbrev pub count_of : Result ℕ Refusal → ℕ
 count_of (Ok n) = n % 4294967296
 count_of (Err r) = packed r
 
 abbrev pub filled_of : Result (Unit {0}) Refusal → ℕ
-filled_of (Ok tt) = 0
+filled_of (Ok _) = 0
 filled_of (Err r) = packed r
 
 abbrev pub effect_of : Result Bool Refusal → ℕ
 effect_of (Ok true) = 1
 effect_of (Ok false) = 0
 effect_of (Err r) = packed r
-
-abbrev pub passes_of : Result ℕ Refusal → ℕ
-passes_of (Ok n) = n % 4294967296
-passes_of (Err r) = packed r
-
-abbrev pub summed_of : Result ℕ Refusal → ℕ
-summed_of (Ok n) = n % 4294967296
-summed_of (Err r) = packed r
 
 -- From the low end: 9 bits for the storages placed, 9 for the slots opened and 14 for the passes, each of which an accepted file keeps below its limit.
 abbrev pub placed_of : Result Placing Refusal → ℕ
@@ -53,11 +46,11 @@ Says f place before r units' = (r ≡ effect_of (told one f place before).answer
 
 abbrev pub Settles : List ℕ → ℕ → List ℕ → List ℕ → ℕ → List ℕ → List ℕ → Type 0
 Settles f number before live r units' live' =
-    (r ≡ passes_of (lives.lived one f number before live).answer) × (units' ≡ (lives.lived one f number before live).units) × (live' ≡ (lives.lived one f number before live).live)
+    (r ≡ count_of (lives.lived one f number before live).answer) × (units' ≡ (lives.lived one f number before live).units) × (live' ≡ (lives.lived one f number before live).live)
 
 abbrev pub Draws : List ℕ → List ℕ → List ℕ → List ℕ → List ℕ → ℕ → List ℕ → List ℕ → List ℕ → List ℕ → Type 0
 Draws f before live graph copies r units' live' graph' copies' =
-    (r ≡ summed_of (graphs.graphed one f before live graph copies).answer) × (units' ≡ (graphs.graphed one f before live graph copies).units)
+    (r ≡ count_of (graphs.graphed one f before live graph copies).answer) × (units' ≡ (graphs.graphed one f before live graph copies).units)
     × (live' ≡ (graphs.graphed one f before live graph copies).live) × (graph' ≡ (graphs.graphed one f before live graph copies).graph)
     × (copies' ≡ (graphs.graphed one f before live graph copies).copies)
 

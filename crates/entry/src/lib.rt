@@ -5,7 +5,7 @@
 
 ghost use Rattle.std.specs.Prelude.{◌≡◌};
 ghost use Rattle.units.specs.Ask.{read_row, write_row, storage_read_row, storage_write_row};
-ghost use Rattle.entry.specs.Answer.{packed, filled_of, Answers, Fills, Says, Settles, Draws, Puts};
+ghost use Rattle.entry.specs.Answer.{packed, count_of, filled_of, Answers, Fills, Says, Settles, Draws, Puts};
 
 use allocator::Placing;
 use records::Refusal;
@@ -16,14 +16,21 @@ fn pack(r: Refusal) -> u64
     (records::number_of(r) as u64) * 4294967296 + records::value_of(r) as u64 % 4294967296
 }
 
+// What `check`, `live` and `graph` count.
+fn counted(answer: Result<usize, Refusal>) -> u64
+    ensures { result ≡ count_of answer }
+{
+    match answer {
+        Ok(n) => n as u64 % 4294967296,
+        Err(r) => pack(r),
+    }
+}
+
 // `check`: the number of units.
 pub fn check_file(file: &[u8], units: &mut [u32]) -> u64
     ensures { Answers file.now units.old result units.new }
 {
-    match records::check(file, units) {
-        Ok(n) => n as u64 % 4294967296,
-        Err(r) => pack(r),
-    }
+    counted(records::check(file, units))
 }
 
 // 0 where a query filled its row.
@@ -79,10 +86,7 @@ pub fn effect_at(file: &[u8], place: usize, units: &mut [u32]) -> u64
 pub fn live_of(file: &[u8], number: usize, units: &mut [u32], live: &mut [u64]) -> u64
     ensures { Settles file.now number units.old live.old result units.new live.new }
 {
-    match liveness::live(file, number, units, live) {
-        Ok(n) => n as u64 % 4294967296,
-        Err(r) => pack(r),
-    }
+    counted(liveness::live(file, number, units, live))
 }
 
 // The passes of all functions, with interference and copies in their rows.
@@ -96,10 +100,7 @@ pub fn graph_of(
     ensures { Draws file.now units.old live.old graph.old copies.old result units.new live.new
         graph.new copies.new }
 {
-    match graph::graph(file, units, live, graph, copies) {
-        Ok(n) => n as u64 % 4294967296,
-        Err(r) => pack(r),
-    }
+    counted(graph::graph(file, units, live, graph, copies))
 }
 
 // `place`, with a record for each storage in `result`: the passes of all functions times 262144, the slots opened times 512, and the storages

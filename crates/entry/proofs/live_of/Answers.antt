@@ -1,11 +1,8 @@
--- `live` answers with its one outcome, and the number is packed from that answer.
--- Its two ways of answering are one law.
+-- The operation answers with its one outcome, and the number is packed from that answer.
+-- So the number and the buffers are that outcome's.
 use mathlib.Core.Path.{refl}
 use Rattle.entry.proofs.Laws.{settles}
 use Rattle.entry.proofs.live_of.Goals as goal
 
-pub returns-in-Ok : goal.returns-in-Ok
-returns-in-Ok c = settles _ _ _ _ _ _ _ _ _ c.live.ensures c.in-Ok.is refl
-
-pub returns-in-Err : goal.returns-in-Err
-returns-in-Err c = settles _ _ _ _ _ _ _ _ _ c.live.ensures c.in-Err.is c.pack.ensures
+pub returns : goal.returns
+returns c = settles _ _ _ _ _ _ _ _ _ c.live.ensures refl c.counted.ensures
