@@ -28,9 +28,7 @@ pub fn insert(words: &mut [u64], base: usize, n: usize)
     requires { base + n / 64 < length words.old }
     ensures { words.new ≡ with_at words.old base n }
 {
-    let m = mask(n % 64);
-    let at = base + n / 64;
-    words[at] |= m;
+    words[base + n / 64] |= mask(n % 64);
 }
 
 // The row at to becomes its union with the row at b of another slice.
