@@ -7,13 +7,14 @@ use mathlib.Core.List.{List, [], ◌∷◌}
 use Prim.Native.Nat.{ℕ, zero, suc, ◌+◌, ◌-◌, ◌*◌, ◌/◌, ◌%◌, ◌≤◌, ◌<◌}
 use native.Mathlib.Omega.{arith}
 use native.Mathlib.Numerals.{add-one}
-use native.Mathlib.Nat.{add-zero}
 use native.Mathlib.Decide.{ℕ_discrete}
 use lib.Dec.{ltb, lit<}
 use lib.Bits.{bit_or}
 use lib.ListN.{length, drop, get_or, replicate, length-replicate, drop_of_length-le}
 use lib.Seq.{drop-cons}
 use borrow.Author.Tests.{lt-ltb, le-ltb, ltb-true, ltb-false, not-true, not-false}
+use Rattle.std.proofs.lemmas.Bool.{or_parts}
+use Rattle.std.proofs.lemmas.List.FromFn.{length-map-range_with_len, get_or-map-range_with_len}
 use Rattle.rows.specs.Row.{Apart, Words, bit, less, member, member_at, row, put, or_row, less_row, same_row}
 use Rattle.rows.proofs.Tests.{either}
 use Rattle.rows.proofs.Digit.{bit_zero}
@@ -148,14 +149,11 @@ blank_member n u = member_none n u
 
 listed_len : (f : ℕ → Block) (k n : ℕ) → length (listed f k n) ≡ n
 unfolding listed
-listed_len f k zero = refl
-listed_len f k (suc n) = ap suc (listed_len f (suc k) n)
+listed_len f k n = length-map-range_with_len f k n
 
 listed_at : (f : ℕ → Block) (k n j : ℕ) → j < n → get_or (listed f k n) j no_block ≡ f (k + j)
 unfolding listed
-listed_at f k zero j h = absurd (omega arith)
-listed_at f k (suc n) zero h = ap f (sym (add-zero k))
-listed_at f k (suc n) (suc j) h = listed_at f (suc k) n j (omega arith) ∙ ap f (omega arith)
+listed_at f k n j h = get_or-map-range_with_len f k n j (k + j) no_block h refl
 
 module _ (gens kills targets starts : List ℕ) (count : ℕ) where
   pub blocks_len : length (blocks_of gens kills targets starts count) ≡ count
@@ -339,10 +337,6 @@ module _ (gens kills targets starts : List ℕ) (count : ℕ) (given : Given gen
 
 -- ---- one pass
 
-pub neither : (a b : Bool) → (a || b) ≡ false → (a ≡ false) × (b ≡ false)
-neither true b e = absurd (true≢false e)
-neither false b e = (refl, e)
-
 pub rows_same : (a b : List ℕ) → not (same_row a b) ≡ false → a ≡ b
 rows_same a b e = same_true a b (not-false (same_row a b) e)
 
@@ -408,7 +402,7 @@ module _ (gens kills targets starts : List ℕ) (count : ℕ) where
     step_same : d ≡ false → visit the_blocks k (state_of live count) ≡ state_of live count
     unfolding state_of differs
     step_same e =
-        let t = neither _ _ (sym ed ∙ e) in
+        let t = or_parts _ _ (sym ed ∙ e) in
         visit_same the_blocks k (state_of live count)
         (ins_at ∙ set_of_row count k (k * width) hk live' live (sym (rows_same _ _ t.1)))
         (outs_at ∙ set_of_row count k (out_base + k * width) hk live' live (sym (rows_same _ _ t.0)))
@@ -444,7 +438,7 @@ module _ (gens kills targets starts : List ℕ) (count : ℕ) where
       low = omega (arith, p.low);
       rest = ap (sweep the_blocks k) step_state ∙ p.rest;
       old = step_old;
-      same = λ e. step_state ∙ step_same (neither c d e).1 ∙ p.same (neither c d e).0;
+      same = λ e. step_state ∙ step_same (or_parts c d e).1 ∙ p.same (or_parts c d e).0;
       moved = λ e. ⊎_elim (λ h. p.moved h) (λ h. step_moved h) (either c d e);
     }
 

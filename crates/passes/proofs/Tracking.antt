@@ -12,11 +12,12 @@ use lib.Dec.{ltb}
 use lib.ListN.{length, get_or, set, length-set}
 use lib.Seq.{get_or-set_same, get_or-set_other}
 use borrow.Author.Tests.{lt-ltb, ltb-true}
+use Rattle.std.proofs.lemmas.Bool.{or_parts}
 use Rattle.rows.specs.Row.{row, put, or_row}
 use Rattle.rows.proofs.Rows.{lt_or_ge, put_row, same_refl}
 use Rattle.fields.specs.Pick.{pick}
 use Rattle.passes.specs.Passes.{width, out_base, targets_of, blank, Given, Overtaken, Tracked, joined, joined_all, out_row, in_row, visited, differs, leads}
-use Rattle.passes.proofs.Passing.{visited_in, visited_out, visited_len, visited_other, neither, rows_same}
+use Rattle.passes.proofs.Passing.{visited_in, visited_out, visited_len, visited_other, rows_same}
 
 -- ---- the test of a block's targets
 
@@ -26,7 +27,7 @@ module _ (moved : List Bool) (count : ℕ) where
   unfolding leads
   leads_none [] e t m l q = Memᴰ.not-nil m
   leads_none (a ∷ ts) e t m l q =
-      let n = neither (ltb a count && get_or moved a false) (leads moved count ts) e in
+      let n = or_parts (ltb a count && get_or moved a false) (leads moved count ts) e in
       ⊎_elim (λ (p : t ≡ a). true≢false (sym (rw (lt-ltb t count l, q)) ∙ ap (λ (x : ℕ). ltb x count && get_or moved x false) p ∙ n.0)) (λ (p : Memᴰ t ts). leads_none ts n.1 t p l q)
       (Memᴰ.cases_cons m)
 
@@ -105,7 +106,7 @@ module _ (gens kills targets starts : List ℕ) (count : ℕ) (given : Given gen
     still_unless : differs k live next ≡ false → Still live k
     unfolding differs
     still_unless e =
-        let t = neither _ _ e in
+        let t = or_parts _ _ e in
         rows_still live len k hk (rows_same _ _ t.0 ∙ visited_out gens kills targets starts count given live len k hk)
         (rows_same _ _ t.1 ∙ visited_in gens kills targets starts count given live len k hk)
 

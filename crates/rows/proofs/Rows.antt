@@ -180,6 +180,19 @@ same_true a b = (bytes_eq-Decides a b).0
 pub same_false : (a b : List ℕ) → (a ≡ b → ⊥) → same_row a b ≡ false
 same_false a b d = false_from_ne_true (same_row a b) (λ e. d (same_true a b e))
 
+-- The parts that `&x[a..a + n]` and `&y[b..b + n]` name differ at a word, or nowhere.
+module _ (x y : List ℕ) (a b n : ℕ) where
+  pub parts_differ : (i : ℕ) → (get_or (between a (a + n) x) i 0 ≡ get_or (between b (b + n) y) i 0 → ⊥) → false ≡ same_row (row x a n) (row y b n)
+  parts_differ i h =
+      sym (same_false _ _ (λ e. h (ap (λ (l : List ℕ). get_or l i 0) (part_row x a n ∙ e ∙ sym (part_row y b n)))))
+
+  pub parts_agree : a + n ≤ length x → b + n ≤ length y
+      → ((i : ℕ) → i < length (between a (a + n) x) → get_or (between a (a + n) x) i 0 ≡ get_or (between b (b + n) y) i 0) → true ≡ same_row (row x a n) (row y b n)
+  parts_agree hx hy h =
+      let l : length (between a (a + n) x) ≡ length (between b (b + n) y) = rw (part_row x a n, part_row y b n) (length_row x a n hx ∙ sym (length_row y b n hy)) in
+      let e : row x a n ≡ row y b n = sym (part_row x a n) ∙ ext_get_or 0 _ _ l h ∙ part_row y b n in
+      rw e (sym (same_refl _))
+
 -- ---- rows one after the other, each w words wide: row i at i * w
 
 pub strides : (w i j : ℕ) → i < j → i * w + w ≤ j * w

@@ -66,7 +66,13 @@ pub fn same_row(x: &[u64], a: usize, y: &[u64], b: usize, n: usize) -> bool
     requires { (a + n ≤ length x.now) × (b + n ≤ length y.now) }
     ensures { result ≡ same_row (row x.now a n) (row y.now b n) }
 {
-    &x[a..a + n] == &y[b..b + n]
+    let other = &y[b..b + n];
+    for (i, w) in x[a..a + n].iter().enumerate() {
+        if *w != other[i] {
+            return false;
+        }
+    }
+    true
 }
 
 // The row at to becomes the row at b of another slice.
