@@ -22,6 +22,9 @@ impl<'a> Blocks<'a> {
     {
         let from = self.starts[k] as usize;
         let to = self.starts[k + 1] as usize;
-        &self.targets[from..to.max(from)]
+        if to <= from {
+            return &[];
+        }
+        &self.targets[from..to]
     }
 }
