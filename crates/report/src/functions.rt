@@ -8,7 +8,7 @@ use liveness::Lived;
 use std::io::{Result, Write};
 
 // Every function, in file order.
-pub fn put_functions<W: Write>(out: &mut W, file: &[u8], units: &mut [u32; 512]) -> Result<()> {
+pub fn put_functions(out: &mut impl Write, file: &[u8], units: &mut [u32; 512]) -> Result<()> {
     for function in Records::of(file).filter(|record| record.kind() == Kind::Function) {
         put_function(out, function, units)?;
     }
@@ -16,7 +16,7 @@ pub fn put_functions<W: Write>(out: &mut W, file: &[u8], units: &mut [u32; 512])
 }
 
 // One function: its own line, then its blocks.
-fn put_function<W: Write>(out: &mut W, function: Record<'_>, units: &mut [u32; 512]) -> Result<()> {
+fn put_function(out: &mut impl Write, function: Record<'_>, units: &mut [u32; 512]) -> Result<()> {
     let number = function.number();
     let blocks = function.blocks().count();
     let mut live = [0u64; 2048];
@@ -34,8 +34,8 @@ fn passes_of(lived: Lived) -> usize {
 }
 
 // The blocks of a function, of which there are at most 128.
-fn put_blocks<W: Write>(
-    out: &mut W,
+fn put_blocks(
+    out: &mut impl Write,
     function: Record<'_>,
     units: &mut [u32; 512],
     live: &[u64; 2048],
@@ -53,7 +53,7 @@ fn put_blocks<W: Write>(
 
 // The line of a block: its live-in units have 8 words for each block, and its live-out units too,
 // from word 1024 on.
-fn put_block<W: Write>(out: &mut W, id: usize, live: &[u64; 2048], number: usize) -> Result<()>
+fn put_block(out: &mut impl Write, id: usize, live: &[u64; 2048], number: usize) -> Result<()>
     requires { number < 128 }
 {
     let live_in = Numbers::of(&live[8 * number..8 * number + 8]);
@@ -62,7 +62,7 @@ fn put_block<W: Write>(out: &mut W, id: usize, live: &[u64; 2048], number: usize
 }
 
 // The steps of a block: those before the next block, function or end.
-fn put_steps<W: Write>(out: &mut W, block: Record<'_>, units: &mut [u32; 512]) -> Result<()> {
+fn put_steps(out: &mut impl Write, block: Record<'_>, units: &mut [u32; 512]) -> Result<()> {
     let steps = block
         .following()
         .take_while(|record| matches!(record.kind(), Kind::Step | Kind::Part))

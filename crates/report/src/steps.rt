@@ -6,7 +6,7 @@ use std::io::{Result, Write};
 use units::Effect;
 
 // Each set has a row of its own, in which a refusal would leave no number.
-pub fn put_step<W: Write>(out: &mut W, step: Record<'_>, units: &mut [u32; 512]) -> Result<()> {
+pub fn put_step(out: &mut impl Write, step: Record<'_>, units: &mut [u32; 512]) -> Result<()> {
     let Record { file, place } = step;
     let mut reads = [0u64; 8];
     units::unit_reads(file, place, units, &mut reads);

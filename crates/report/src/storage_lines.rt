@@ -6,7 +6,7 @@ use crate::record_places::{Kind, Records};
 use graph::Graphed;
 use std::io::{Result, Write};
 
-pub fn put_graph<W: Write>(out: &mut W, file: &[u8], units: &mut [u32; 512]) -> Result<()> {
+pub fn put_graph(out: &mut impl Write, file: &[u8], units: &mut [u32; 512]) -> Result<()> {
     let mut live = [0u64; 2048];
     let mut near = [0u64; 1024];
     let mut copies = [0u64; 1024];
@@ -25,7 +25,7 @@ fn passes_of(graphed: Graphed) -> usize {
 }
 
 // Every storage, in file order. Ids are below 256.
-fn put_storages<W: Write>(out: &mut W, file: &[u8], near: &[u64; 1024]) -> Result<()> {
+fn put_storages(out: &mut impl Write, file: &[u8], near: &[u64; 1024]) -> Result<()> {
     for storage in Records::of(file).filter(|record| record.kind() == Kind::Storage) {
         put_storage(out, storage.id() % 256, near)?;
     }
@@ -33,7 +33,7 @@ fn put_storages<W: Write>(out: &mut W, file: &[u8], near: &[u64; 1024]) -> Resul
 }
 
 // The neighbours of a storage; without any it has no line.
-fn put_storage<W: Write>(out: &mut W, id: usize, near: &[u64; 1024]) -> Result<()>
+fn put_storage(out: &mut impl Write, id: usize, near: &[u64; 1024]) -> Result<()>
     requires { id < 256 }
 {
     let row = &near[4 * id..4 * id + 4];
@@ -45,7 +45,7 @@ fn put_storage<W: Write>(out: &mut W, id: usize, near: &[u64; 1024]) -> Result<(
 }
 
 // The pairs of copies, each in the row of its smaller id.
-fn put_copies<W: Write>(out: &mut W, copies: &[u64; 1024]) -> Result<()> {
+fn put_copies(out: &mut impl Write, copies: &[u64; 1024]) -> Result<()> {
     for id in 0..256 {
         put_copies_of(out, id, copies)?;
     }
@@ -53,7 +53,7 @@ fn put_copies<W: Write>(out: &mut W, copies: &[u64; 1024]) -> Result<()> {
 }
 
 // The pairs whose smaller id is this one, by their larger ids.
-fn put_copies_of<W: Write>(out: &mut W, id: usize, copies: &[u64; 1024]) -> Result<()>
+fn put_copies_of(out: &mut impl Write, id: usize, copies: &[u64; 1024]) -> Result<()>
     requires { id < 256 }
 {
     for other in 0..256 {
