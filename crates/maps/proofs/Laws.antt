@@ -1,19 +1,22 @@
 -- Laws of the maps. A search gives what is first, or there is none, since each step looks at one offset and hands on the rest;
 -- and taking sets the bits that it names and no other, since it writes those bytes alone. Assumes nothing.
 use Rattle.std.specs.Prelude.{Option, Some, None}
+use Rattle.std.specs.List.{list_all, position, position_or_len}
+use Rattle.std.proofs.lemmas.List.Sums.{fails_before_first}
+use Rattle.std.proofs.lemmas.List.Quantifiers.{position-Some}
 use mathlib.Core.Path.{◌≡◌, refl, sym, ap, ◌∙◌, subst}
 use mathlib.Core.Logic.{◌⊎◌, inl, inr}
-use mathlib.Core.Bool.{Bool, true, false, not, ◌&&◌, ◌||◌}
-use mathlib.Core.List.{List, [], ◌∷◌}
+use mathlib.Core.Bool.{Bool, true, false, not, cond, ◌&&◌, ◌||◌}
+use mathlib.Core.List.{List, [], ◌∷◌, ◌++◌}
 use Prim.Native.Nat.{ℕ, zero, suc, ◌+◌, ◌-◌, ◌*◌, ◌/◌, ◌^◌, ◌≤◌, ◌<◌}
 use native.Mathlib.Omega.{arith}
 use native.Mathlib.Nat.{not-suc-le-zero, le_of_suc-le-suc}
 use native.Mathlib.Decide.{ℕ_discrete, dec_le, dec_lt}
 use lib.Dec.{T, eqb, ltb, leb, leb-suc-suc}
 use lib.Bits.{bit_or}
-use lib.ListN.{length, get_or, set, drop, length-set, length-drop, get_or-eq_default}
+use lib.ListN.{length, get_or, set, take, drop, replicate, length-set, length-drop, get_or-eq_default}
 use lib.Seq.{get_or-set_same, get_or-set_other, get_or-drop}
-use borrow.Author.Tests.{eqb-true, eq-eqb, ltb-true, ltb-false, lt-ltb, le-ltb, leb-true, le-leb}
+use borrow.Author.Tests.{eqb-true, eqb-false, eq-eqb, ltb-true, ltb-false, lt-ltb, le-ltb, leb-true, le-leb}
 use Rattle.rows.specs.Row.{bit}
 use Rattle.rows.proofs.Digit.{digit_low, digit_suc, bit_of_or, bit_zero, bit_pow_same, bit_pow_other}
 use Rattle.fields.specs.Pick.{pick}
@@ -154,20 +157,48 @@ pub clear_bytes_in : (o n : ℕ) (m : List ℕ) → o + n ≤ length m → Clear
 unfolding clear_bytes
 clear_bytes_in o n m l c = rw (le-leb (o + n) (length m) l) (clear_in n o m l c)
 
--- The test itself, for code that looks at each byte.
-pub clear_bytes_yes : (o n : ℕ) (m : List ℕ) → o + n ≤ length m → Clear m n o → true ≡ clear_bytes o n m
-clear_bytes_yes o n m l c = go (clear_bytes o n m) (clear_bytes_in o n m l c)
-  where
-    go : (t : Bool) → T t → true ≡ t
-    go true h = refl
-    go false h = elim h [ ]
+-- The test itself, for code that asks each byte of the part.
+pub clears_all : (n : ℕ) (m : List ℕ) → n ≤ length m → clears n m ≡ list_all (λ b. eqb b 0) (take n m)
+unfolding clears
+clears_all zero m l = refl
+clears_all (suc n) [] l = absurd (not-suc-le-zero l)
+clears_all (suc n) (b ∷ m) l = ap (λ (t : Bool). eqb b 0 && t) (clears_all n m (le_of_suc-le-suc l))
 
-pub clear_bytes_no : (o n : ℕ) (m : List ℕ) → (o + n ≤ length m → Clear m n o → ⊥) → false ≡ clear_bytes o n m
-clear_bytes_no o n m h = go (clear_bytes o n m) (λ t. let x = clear_bytes_out o n m t in h x.0 x.1)
+pub clear_bytes_all : (o n : ℕ) (m : List ℕ) → o + n ≤ length m → list_all (λ b. eqb b 0) (take n (drop o m)) ≡ clear_bytes o n m
+unfolding clear_bytes
+clear_bytes_all o n m l = rw (le-leb (o + n) (length m) l) (sym (clears_all n (drop o m) (omega (arith, length-drop o m))))
+
+-- ---- The next clear byte
+
+-- A byte from o on that fails the test among those from o on is not clear.
+not_clear : (o j : ℕ) (m : List ℕ) → o ≤ j → eqb (get_or (drop o m) (j - o) 0) 0 ≡ false → get_or m j 0 ≡ 0 → ⊥
+not_clear o j m l e z =
+    let k : o + (j - o) ≡ j = omega arith in
+    eqb-false _ 0 e (get_or-drop o m (j - o) 0 ∙ ap (λ (x : ℕ). get_or m x 0) k ∙ z)
+
+pub next_found : (o i : ℕ) (m : List ℕ) → o ≤ length m → position (λ b. eqb b 0) (drop o m) ≡ Some i → NextClear m o (o + i)
+next_found o i m l e =
+    let p = position-Some (λ b. eqb b 0) (drop o m) i 0 e in
+    record {
+      behind = omega arith;
+      inside = omega (arith, p.0, length-drop o m);
+      taken = λ j u v. not_clear o j m v (p.2 (j - o) (omega arith));
+      clear = λ _. sym (get_or-drop o m i 0) ∙ eqb-true _ 0 p.1;
+    }
+
+pub next_none : (o : ℕ) (m : List ℕ) → o ≤ length m → position (λ b. eqb b 0) (drop o m) ≡ None → NextClear m o (length m)
+next_none o m l e =
+    let all = past (ltb (position_or_len (λ b. eqb b 0) (drop o m)) (length (drop o m))) refl e in
+    record {
+      behind = l;
+      inside = omega arith;
+      taken = λ j u v. not_clear o j m v (fails_before_first (λ b. eqb b 0) (drop o m) (j - o) 0 (omega (arith, all, length-drop o m)));
+      clear = λ u. absurd (omega arith);
+    }
   where
-    go : (t : Bool) → (T t → ⊥) → false ≡ t
-    go true f = absurd (f tt)
-    go false f = refl
+    past : {k n : ℕ} (b : Bool) → ltb k n ≡ b → cond b (Some k) None ≡ None → n ≤ k
+    past true q h = absurd (cc)
+    past {k} {n} false q h = ltb-false k n q
 
 pub clear_bit_out : (o k : ℕ) (m : List ℕ) → T (clear_bit o k m) → (o < length m) × (bit (get_or m o 0) k ≡ false)
 unfolding clear_bit
@@ -291,26 +322,15 @@ fill_out zero (suc n) (b ∷ m) (suc i) h = fill_out zero n m i (λ p q. h (omeg
 fill_out (suc o) n (b ∷ m) zero h = refl
 fill_out (suc o) n (b ∷ m) (suc i) h = fill_out o n m i (λ p q. h (omega arith) (omega arith))
 
--- A loop that fills, one byte a turn.
-pub fill_none : (o : ℕ) (m : List ℕ) → m ≡ fill o 0 m
+-- What std's `fill` of a part writes.
+pub fill_part : (o n : ℕ) (m : List ℕ) → o + n ≤ length m → take o m ++ (replicate n 255 ++ drop n (drop o m)) ≡ fill o n m
 unfolding fill
-fill_none zero [] = refl
-fill_none (suc o) [] = refl
-fill_none zero (b ∷ m) = refl
-fill_none (suc o) (b ∷ m) = ap {B = List ℕ} (λ r. b ∷ r) (fill_none o m)
-
-pub fill_more : (o k : ℕ) (m : List ℕ) → o + k < length m → set (fill o k m) (o + k) 255 ≡ fill o (k + 1) m
-unfolding fill
-fill_more o k m l = let e : k + 1 ≡ suc k = omega arith in rw e (go o k (o + k) m refl l)
-  where
-    go : (o k i : ℕ) (m : List ℕ) → i ≡ o + k → i < length m → set (fill o k m) i 255 ≡ fill o (suc k) m
-    go o k i [] e l = absurd (not-suc-le-zero l)
-    go zero zero zero (b ∷ m) e l = ap {B = List ℕ} (λ r. 255 ∷ r) (fill_none zero m)
-    go zero zero (suc i) (b ∷ m) e l = absurd (omega arith)
-    go zero (suc k) zero (b ∷ m) e l = absurd (omega arith)
-    go zero (suc k) (suc i) (b ∷ m) e l = ap {B = List ℕ} (λ r. 255 ∷ r) (go zero k i m (omega arith) (le_of_suc-le-suc l))
-    go (suc o) k zero (b ∷ m) e l = absurd (omega arith)
-    go (suc o) k (suc i) (b ∷ m) e l = ap {B = List ℕ} (λ r. b ∷ r) (go o k i m (omega arith) (le_of_suc-le-suc l))
+fill_part zero zero [] l = refl
+fill_part zero zero (b ∷ m) l = refl
+fill_part zero (suc n) [] l = absurd (omega arith)
+fill_part zero (suc n) (b ∷ m) l = ap {B = List ℕ} (λ r. 255 ∷ r) (fill_part zero n m (omega arith))
+fill_part (suc o) n [] l = absurd (omega arith)
+fill_part (suc o) n (b ∷ m) l = ap {B = List ℕ} (λ r. b ∷ r) (fill_part o n m (omega arith))
 
 -- ---- Bits of taken bytes
 
