@@ -1,12 +1,10 @@
 -- Laws of the maps. A search gives what is first, or there is none, since each step looks at one offset and hands on the rest;
 -- and taking sets the bits that it names and no other, since it writes those bytes alone. Assumes nothing.
 use Rattle.std.specs.Prelude.{Option, Some, None}
-use Rattle.std.specs.List.{list_all, position, position_or_len}
-use Rattle.std.proofs.lemmas.List.Sums.{fails_before_first}
-use Rattle.std.proofs.lemmas.List.Quantifiers.{position-Some}
+use Rattle.std.specs.List.{list_all}
 use mathlib.Core.Path.{◌≡◌, refl, sym, ap, ◌∙◌, subst}
 use mathlib.Core.Logic.{◌⊎◌, inl, inr}
-use mathlib.Core.Bool.{Bool, true, false, not, cond, ◌&&◌, ◌||◌}
+use mathlib.Core.Bool.{Bool, true, false, not, ◌&&◌, ◌||◌}
 use mathlib.Core.List.{List, [], ◌∷◌, ◌++◌}
 use Prim.Native.Nat.{ℕ, zero, suc, ◌+◌, ◌-◌, ◌*◌, ◌/◌, ◌^◌, ◌≤◌, ◌<◌}
 use native.Mathlib.Omega.{arith}
@@ -16,7 +14,7 @@ use lib.Dec.{T, eqb, ltb, leb, leb-suc-suc}
 use lib.Bits.{bit_or}
 use lib.ListN.{length, get_or, set, take, drop, replicate, length-set, length-drop, get_or-eq_default}
 use lib.Seq.{get_or-set_same, get_or-set_other, get_or-drop}
-use borrow.Author.Tests.{eqb-true, eqb-false, eq-eqb, ltb-true, ltb-false, lt-ltb, le-ltb, leb-true, le-leb}
+use borrow.Author.Tests.{eqb-true, eq-eqb, ltb-true, ltb-false, lt-ltb, le-ltb, leb-true, le-leb}
 use Rattle.rows.specs.Row.{bit}
 use Rattle.rows.proofs.Digit.{digit_low, digit_suc, bit_of_or, bit_zero, bit_pow_same, bit_pow_other}
 use Rattle.fields.specs.Pick.{pick}
@@ -167,38 +165,6 @@ clears_all (suc n) (b ∷ m) l = ap (λ (t : Bool). eqb b 0 && t) (clears_all n 
 pub clear_bytes_all : (o n : ℕ) (m : List ℕ) → o + n ≤ length m → list_all (λ b. eqb b 0) (take n (drop o m)) ≡ clear_bytes o n m
 unfolding clear_bytes
 clear_bytes_all o n m l = rw (le-leb (o + n) (length m) l) (sym (clears_all n (drop o m) (omega (arith, length-drop o m))))
-
--- ---- The next clear byte
-
--- A byte from o on that fails the test among those from o on is not clear.
-not_clear : (o j : ℕ) (m : List ℕ) → o ≤ j → eqb (get_or (drop o m) (j - o) 0) 0 ≡ false → get_or m j 0 ≡ 0 → ⊥
-not_clear o j m l e z =
-    let k : o + (j - o) ≡ j = omega arith in
-    eqb-false _ 0 e (get_or-drop o m (j - o) 0 ∙ ap (λ (x : ℕ). get_or m x 0) k ∙ z)
-
-pub next_found : (o i : ℕ) (m : List ℕ) → o ≤ length m → position (λ b. eqb b 0) (drop o m) ≡ Some i → NextClear m o (o + i)
-next_found o i m l e =
-    let p = position-Some (λ b. eqb b 0) (drop o m) i 0 e in
-    record {
-      behind = omega arith;
-      inside = omega (arith, p.0, length-drop o m);
-      taken = λ j u v. not_clear o j m v (p.2 (j - o) (omega arith));
-      clear = λ _. sym (get_or-drop o m i 0) ∙ eqb-true _ 0 p.1;
-    }
-
-pub next_none : (o : ℕ) (m : List ℕ) → o ≤ length m → position (λ b. eqb b 0) (drop o m) ≡ None → NextClear m o (length m)
-next_none o m l e =
-    let all = past (ltb (position_or_len (λ b. eqb b 0) (drop o m)) (length (drop o m))) refl e in
-    record {
-      behind = l;
-      inside = omega arith;
-      taken = λ j u v. not_clear o j m v (fails_before_first (λ b. eqb b 0) (drop o m) (j - o) 0 (omega (arith, all, length-drop o m)));
-      clear = λ u. absurd (omega arith);
-    }
-  where
-    past : {k n : ℕ} (b : Bool) → ltb k n ≡ b → cond b (Some k) None ≡ None → n ≤ k
-    past true q h = absurd (cc)
-    past {k} {n} false q h = ltb-false k n q
 
 pub clear_bit_out : (o k : ℕ) (m : List ℕ) → T (clear_bit o k m) → (o < length m) × (bit (get_or m o 0) k ≡ false)
 unfolding clear_bit
