@@ -33,9 +33,7 @@ use Rattle.turns.specs.Held.{Tells}
 use Rattle.allocator.specs.All.{Fit, Allocates}
 use Rattle.allocator.specs.Placing.{Lent, given, placing, placed_by, placed_from, placed, Places, PlacesIn, Analysed, PlacesOn}
 use Rattle.allocator.specs.declared.Placing.{Placing}
-use Rattle.allocator.specs.declared.Placing.TheVariants.{Done, Refused}
 use Rattle.allocator.specs.declared.all.Allocated.{Allocated}
-use Rattle.allocator.specs.declared.all.Allocated.TheVariants as allocated
 use Rattle.allocator.proofs.Telling.{tells}
 
 none_past : (n : ℕ) (l : List ℕ) → length l ≡ n → drop n l ≡ drop n []
@@ -99,24 +97,24 @@ module _ (f words live graph copies : List ℕ) (n : ℕ) (h : Analysed f words 
       rw (sym i.0, sym i.1, sym i.2, declared_is f a.us a.accepts)
 
   -- What the placing of the words gives, for whatever tells what they tell, it gives for the program's graph.
-  module _ (result out : List ℕ) (a : Allocated)
+  module _ (result out : List ℕ) (a : Result Allocated Refusal)
       (ens : (g : Given) → Tells g graph copies → g.lo ≡ 0 → g.hi ≡ u16_at f 1
       → Allocates (place g (u16_at f 1) (u16_at f 3) (u16_at f 5) (map stored (declared f))) a out) where
     of_program : Allocates (placing one (program one f)) a out
     of_program = subst (λ (o : Outcome). Allocates o a out) placing_is (ens (given one (program one f)) analysed_tells refl analysed_window)
 
-    pub placed_done : (placed slots : ℕ) (result' : List ℕ) → length result ≡ 2048 → a ≡ allocated.Done placed slots → result' ≡ out
-        → PlacesOn f words live graph copies result n (Done placed slots n) words live graph copies result'
-    placed_done placed slots result' l e r = go (subst (λ (b : Allocated). Allocates (placing one (program one f)) b out) e of_program)
+    pub placed_done : (r : Allocated) (result' : List ℕ) → length result ≡ 2048 → a ≡ Ok r → result' ≡ out
+        → PlacesOn f words live graph copies result n (Ok (record { placed = r.placed; slots = r.slots; passes = n })) words live graph copies result'
+    placed_done d result' l e r = go (subst (λ (b : Result Allocated Refusal). Allocates (placing one (program one f)) b out) e of_program)
       where
-        go : Allocates (placing one (program one f)) (allocated.Done placed slots) out → PlacesOn f words live graph copies result n (Done placed slots n) words live graph copies result'
+        go : Allocates (placing one (program one f)) (Ok d) out → PlacesOn f words live graph copies result n (Ok (record { placed = d.placed; slots = d.slots; passes = n })) words live graph copies result'
         go (x, q, p, k, o) = rw (q, p, k, r, o, laid_exact 2048 (records_of x.placed) result l)
 
-    pub placed_refused : (x : Refusal) (words' live' graph' copies' : List ℕ) → a ≡ allocated.Refused x
+    pub placed_refused : (x : Refusal) (words' live' graph' copies' : List ℕ) → a ≡ Err x
         → words' ≡ laid 512 [] [] → live' ≡ laid 2048 [] [] → graph' ≡ laid 1024 [] [] → copies' ≡ laid 1024 [] []
-        → PlacesOn f words live graph copies result n (Refused x) words' live' graph' copies' result
+        → PlacesOn f words live graph copies result n (Err x) words' live' graph' copies' result
     placed_refused x words' live' graph' copies' e u l g c =
-        let q : placing one (program one f) ≡ refused x = subst (λ (b : Allocated). Allocates (placing one (program one f)) b out) e of_program in rw (q, u, l, g, c)
+        let q : placing one (program one f) ≡ refused x = subst (λ (b : Result Allocated Refusal). Allocates (placing one (program one f)) b out) e of_program in rw (q, u, l, g, c)
 
 -- ---- buffers of just the needed words
 
@@ -152,13 +150,13 @@ module _ (f words live graph copies : List ℕ) (u : length words ≡ 512) (l : 
     in_words : record { answer = answer; units = words'; live = live'; graph = graph'; copies = copies' } ≡ G.graphed_by one f [] [] [] [] (check one f)
     in_words = h ∙ graphed_exact
 
-    pub after_refusal : (x : Refusal) (result : List ℕ) → answer ≡ Err x → PlacesIn f result (Refused x) words' live' graph' copies' result
+    pub after_refusal : (x : Refusal) (result : List ℕ) → answer ≡ Err x → PlacesIn f result (Err x) words' live' graph' copies' result
     after_refusal x result e = rw (sym in_words, e)
 
     pub after_passes : (n : ℕ) → answer ≡ Ok n → Analysed f words' live' graph' copies' n
     after_passes n e = ap (λ (a : Result ℕ Refusal). record { answer = a; units = words'; live = live'; graph = graph'; copies = copies' }) (sym e) ∙ in_words
 
-    pub after_placing : (n : ℕ) (result : List ℕ) (r : Placing) (words'' live'' graph'' copies'' result'' : List ℕ) → answer ≡ Ok n
+    pub after_placing : (n : ℕ) (result : List ℕ) (r : Result Placing Refusal) (words'' live'' graph'' copies'' result'' : List ℕ) → answer ≡ Ok n
         → PlacesOn f words' live' graph' copies' result n r words'' live'' graph'' copies'' result'' → PlacesIn f result r words'' live'' graph'' copies'' result''
     after_placing n result r words'' live'' graph'' copies'' result'' e p = p ∙ rw (sym in_words, e)
 
@@ -166,8 +164,8 @@ module _ (f words live graph copies : List ℕ) (u : length words ≡ 512) (l : 
 
 module _ (f words live graph copies result : List ℕ) where
   short_by : (t : Bool) (o : G.Outcome) → record { answer = Err Short; units = words; live = live; graph = graph; copies = copies } ≡ o
-      → record { answer = Refused Short; units = words; live = live; graph = graph; copies = copies; result = result }
-      ≡ pick t (record { answer = Refused Short; units = words; live = live; graph = graph; copies = copies; result = result })
+      → record { answer = Err Short; units = words; live = live; graph = graph; copies = copies; result = result }
+      ≡ pick t (record { answer = Err Short; units = words; live = live; graph = graph; copies = copies; result = result })
       (placed_from one f o words live graph copies result)
   unfolding pick
   short_by true o e = refl
@@ -175,17 +173,17 @@ module _ (f words live graph copies result : List ℕ) where
 
   -- A buffer that the analysis finds too short, whether or not the result is.
   pub short_analysis : G.Graphs f words live graph copies (Err Short) words live graph copies
-      → Places f words live graph copies result (Refused Short) words live graph copies result
+      → Places f words live graph copies result (Err Short) words live graph copies result
   unfolding placed
   short_analysis e = short_by (ltb (length result) 2048) (G.graphed one f words live graph copies) e
 
-  pub short_result : length result < 2048 → Places f words live graph copies result (Refused Short) words live graph copies result
+  pub short_result : length result < 2048 → Places f words live graph copies result (Err Short) words live graph copies result
   unfolding placed
   short_result l = sym (pick_yes _ _ _ (lt-ltb (length result) 2048 l))
 
   module _ (u : 512 ≤ length words) (l : 2048 ≤ length live) (g : 1024 ≤ length graph) (c : 1024 ≤ length copies) (r : 2048 ≤ length result) where
     -- What is laid into the needed words, and past them what stood there.
-    rest_by : (o : Outcome) (n : ℕ) (a : G.Outcome) (answer : Placing) (words' live' graph' copies' result' : List ℕ)
+    rest_by : (o : Outcome) (n : ℕ) (a : G.Outcome) (answer : Result Placing Refusal) (words' live' graph' copies' result' : List ℕ)
         → record { answer = answer; units = words'; live = live'; graph = graph'; copies = copies'; result = result' } ≡ placed_by one a [] [] [] [] (take 2048 result) n o
         → record {
           answer = answer;
@@ -241,7 +239,7 @@ module _ (f words live graph copies result : List ℕ) where
         ≡ G.graphed_by one f words live graph copies (units us)
     widened us = rw (laid_rest 512 us words) (simp append-nil)
 
-    rest_of : (k : Answer) (answer : Placing) (words' live' graph' copies' result' : List ℕ)
+    rest_of : (k : Answer) (answer : Result Placing Refusal) (words' live' graph' copies' result' : List ℕ)
         → record { answer = answer; units = words'; live = live'; graph = graph'; copies = copies'; result = result' }
         ≡ placed_from one f (G.graphed_by one f [] [] [] [] k) [] [] [] [] (take 2048 result)
         → record {
@@ -271,7 +269,7 @@ module _ (f words live graph copies result : List ℕ) where
           take-append-drop 2048 result,
         )
 
-    pub places_all : (answer : Placing) (words' live' graph' copies' result' : List ℕ) → PlacesIn f (take 2048 result) answer words' live' graph' copies' result'
+    pub places_all : (answer : Result Placing Refusal) (words' live' graph' copies' result' : List ℕ) → PlacesIn f (take 2048 result) answer words' live' graph' copies' result'
         → Places f words live graph copies result answer (words' ++ drop 512 words) (live' ++ drop 2048 live) (graph' ++ drop 1024 graph) (copies' ++ drop 1024 copies)
         (result' ++ drop 2048 result)
     unfolding placed G.graphed
@@ -282,7 +280,7 @@ module _ (f words live graph copies result : List ℕ) where
         (pick_no _ _ _ (none _ _ _ _ (le-ltb (length words) 512 u) (le-ltb (length live) 2048 l) (le-ltb (length graph) 1024 g) (le-ltb (length copies) 1024 c))))
 
 -- Any two outcomes that the contract permits are one.
-pub places_decide : (f words live graph copies result : List ℕ) (r r' : Placing) (u₁ l₁ g₁ c₁ s₁ u₂ l₂ g₂ c₂ s₂ : List ℕ)
+pub places_decide : (f words live graph copies result : List ℕ) (r r' : Result Placing Refusal) (u₁ l₁ g₁ c₁ s₁ u₂ l₂ g₂ c₂ s₂ : List ℕ)
     → Places f words live graph copies result r u₁ l₁ g₁ c₁ s₁ → Places f words live graph copies result r' u₂ l₂ g₂ c₂ s₂
     → (r ≡ r') × (u₁ ≡ u₂) × (l₁ ≡ l₂) × (g₁ ≡ g₂) × (c₁ ≡ c₂) × (s₁ ≡ s₂)
 places_decide f words live graph copies result r r' u₁ l₁ g₁ c₁ s₁ u₂ l₂ g₂ c₂ s₂ a b =

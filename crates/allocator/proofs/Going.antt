@@ -25,7 +25,6 @@ use Rattle.slots.specs.declared.Slot.{Slot}
 use Rattle.slots.specs.declared.Page.{Page}
 use Rattle.slots.specs.Slots.{no_page, slots_in, opened}
 use Rattle.slots.proofs.Pages.{Full, full_none, full_put, number_put}
-use Rattle.allocator.specs.declared.all.Allocated.TheVariants as allocated
 use Rattle.places.specs.declared.memory.Floor.{Floor}
 use Rattle.places.specs.Memory.{Solid}
 use Rattle.places.specs.Legal.{FixedSmall}
@@ -133,7 +132,7 @@ module _ (list : List Page) (n : ℕ) (z : Storage) (v : Result (Option Placemen
   Follows = Went v × (slots_in list' ≡ list_after (slots_in list) n z v) × (n' ≡ count_after n v) × (length list' ≡ 16) × Full list'
 
   module _ (pages : length list ≡ 16) (full : Full list) where
-    pub placed_follows : v ≡ (Ok None) → list' ≡ list → n' ≡ n → Follows
+    pub placed_follows : v ≡ Ok None → list' ≡ list → n' ≡ n → Follows
     placed_follows e q m = (
       subst Went (sym e) tt,
       ap slots_in q ∙ sym (ap (list_after (slots_in list) n z) e),
@@ -252,7 +251,7 @@ module _ {file graph copies app₀ wrk₀ app wrk : List ℕ} {list : List Page}
   -- ---- The end
 
   pub going_end : opens_storage (drop at file) ≡ false → (g : Given) → Tells g graph copies → g.lo ≡ 0 → g.hi ≡ length app₀
-      → Allocates (place_from g (map stored (declared file)) (begun app₀ wrk₀)) (allocated.Done i n) out
+      → Allocates (place_from g (map stored (declared file)) (begun app₀ wrk₀)) (Ok (record { placed = i; slots = n })) out
   unfolding storages_by place_from
   going_end o g t lo hi = let h = s.held g t lo hi in
       (h.0, sym h.2 ∙ none h.0 s.fuel, h.1.kept.count, h.1.kept.many, h.1.out_is)

@@ -12,7 +12,6 @@ use Rattle.liveness.specs.Lives.{needed}
 use Rattle.graph.specs.Graph.{interferes, copied}
 use Rattle.graph.specs.Graphs as G
 use Rattle.allocator.specs.declared.Placing.{Placing}
-use Rattle.allocator.specs.declared.Placing.TheVariants.{Done, Refused}
 use Rattle.places.specs.Place.{Given, Outcome, done, refused, place, records_of}
 use Rattle.records.specs.declared.Refusal.{Refusal}
 
@@ -30,7 +29,7 @@ result_bytes ed = G.ids ed * 8
 
 -- What stands in the buffers after a call.
 pub record Lent : Type 0 where
-  pub answer : Placing
+  pub answer : Result Placing Refusal
   pub units : List ℕ
   pub live : List ℕ
   pub graph : List ℕ
@@ -41,7 +40,7 @@ pub record Lent : Type 0 where
 abbrev pub placed_by : Edition → G.Outcome → List ℕ → List ℕ → List ℕ → List ℕ → List ℕ → ℕ → Outcome → Lent
 placed_by ed o units live graph copies result n (done x) =
     record {
-      answer = Done (length x.placed) (length x.slots) n;
+      answer = Ok (record { placed = length x.placed; slots = length x.slots; passes = n });
       units = o.units;
       live = o.live;
       graph = o.graph;
@@ -50,7 +49,7 @@ placed_by ed o units live graph copies result n (done x) =
     }
 placed_by ed o units live graph copies result n (refused r) =
     record {
-      answer = Refused r;
+      answer = Err r;
       units = laid ed.units [] units;
       live = laid (needed ed) [] live;
       graph = laid (G.pair_words ed) [] graph;
@@ -61,7 +60,7 @@ placed_by ed o units live graph copies result n (refused r) =
 -- What the analysis refuses stays refused, with its buffers as it leaves them.
 abbrev pub placed_after : Edition → List ℕ → G.Outcome → List ℕ → List ℕ → List ℕ → List ℕ → List ℕ → Result ℕ Refusal → Lent
 placed_after ed f o units live graph copies result (Err r) =
-    record { answer = Refused r; units = o.units; live = o.live; graph = o.graph; copies = o.copies; result = result }
+    record { answer = Err r; units = o.units; live = o.live; graph = o.graph; copies = o.copies; result = result }
 placed_after ed f o units live graph copies result (Ok n) = placed_by ed o units live graph copies result n (placing ed (program ed f))
 
 abbrev pub placed_from : Edition → List ℕ → G.Outcome → List ℕ → List ℕ → List ℕ → List ℕ → List ℕ → Lent
@@ -71,16 +70,16 @@ placed_from ed f o units live graph copies result = placed_after ed f o units li
 unfoldable pub placed : Edition → List ℕ → List ℕ → List ℕ → List ℕ → List ℕ → List ℕ → Lent
 placed ed f units live graph copies result =
     pick (ltb (length result) (result_bytes ed))
-    (record { answer = Refused Short; units = units; live = live; graph = graph; copies = copies; result = result })
+    (record { answer = Err Short; units = units; live = live; graph = graph; copies = copies; result = result })
     (placed_from ed f (G.graphed ed f units live graph copies) units live graph copies result)
 
 -- The contract of place.
-abbrev pub Places : List ℕ → List ℕ → List ℕ → List ℕ → List ℕ → List ℕ → Placing → List ℕ → List ℕ → List ℕ → List ℕ → List ℕ → Type 0
+abbrev pub Places : List ℕ → List ℕ → List ℕ → List ℕ → List ℕ → List ℕ → Result Placing Refusal → List ℕ → List ℕ → List ℕ → List ℕ → List ℕ → Type 0
 Places f units live graph copies result r units' live' graph' copies' result' =
     record { answer = r; units = units'; live = live'; graph = graph'; copies = copies'; result = result' } ≡ placed one f units live graph copies result
 
 -- The same of buffers of just the needed words; and of those in which the analysis stands already.
-abbrev pub PlacesIn : List ℕ → List ℕ → Placing → List ℕ → List ℕ → List ℕ → List ℕ → List ℕ → Type 0
+abbrev pub PlacesIn : List ℕ → List ℕ → Result Placing Refusal → List ℕ → List ℕ → List ℕ → List ℕ → List ℕ → Type 0
 PlacesIn f result r units' live' graph' copies' result' =
     record { answer = r; units = units'; live = live'; graph = graph'; copies = copies'; result = result' }
     ≡ placed_from one f (G.graphed_by one f [] [] [] [] (check one f)) [] [] [] [] result
@@ -88,7 +87,7 @@ PlacesIn f result r units' live' graph' copies' result' =
 abbrev pub Analysed : List ℕ → List ℕ → List ℕ → List ℕ → List ℕ → ℕ → Type 0
 Analysed f units live graph copies n = G.GraphsIn f (Ok n) units live graph copies
 
-abbrev pub PlacesOn : List ℕ → List ℕ → List ℕ → List ℕ → List ℕ → List ℕ → ℕ → Placing → List ℕ → List ℕ → List ℕ → List ℕ → List ℕ → Type 0
+abbrev pub PlacesOn : List ℕ → List ℕ → List ℕ → List ℕ → List ℕ → List ℕ → ℕ → Result Placing Refusal → List ℕ → List ℕ → List ℕ → List ℕ → List ℕ → Type 0
 PlacesOn f units live graph copies result n r units' live' graph' copies' result' =
     record { answer = r; units = units'; live = live'; graph = graph'; copies = copies'; result = result' }
     ≡ placed_by one (record { answer = Ok n; units = units; live = live; graph = graph; copies = copies }) [] [] [] [] result n

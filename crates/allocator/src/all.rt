@@ -14,13 +14,13 @@ use places::memory::{Floor, raise};
 use records::Refusal;
 use slots::{no_slots, put_page, slot_of};
 use storages::{opens_storage, storage_at};
-use turns::turn::{Verdict, place_one};
+use turns::turn::place_one;
 
-// How many storages were placed and how many slots opened, or the first refusal.
+// How many storages were placed, and how many slots opened.
 #[derive(Clone, Copy)]
-pub enum Allocated {
-    Done { placed: usize, slots: usize },
-    Refused(Refusal),
+pub struct Allocated {
+    pub placed: usize,
+    pub slots: usize,
 }
 
 // Every storage in turn, from maps in which nothing is placed yet.
@@ -49,29 +49,34 @@ pub fn place_all(
     while opens_storage(tail_of(file, at)) {
         let s = storage_at(tail_of(file, at));
         floor = raise(floor, app, work);
-        match place_one(
+        let opened = place_one(
             list, n, s, graph, copies, app, work, floor, ids, kin, numbers, out, i,
-        ) {
-            Ok(None) => {}
-            Ok(Some(p)) => {
+        )?;
+        match opened {
+            None => {}
+            Some(p) => {
                 let k = n / 16;
                 let page = list[k];
                 list[k] = put_page(page, n % 16, slot_of(s, p));
                 n += 1;
             }
-            Err(r) => return Err(r),
         }
         at += 16;
         i += 1;
     }
-    Allocated::Done {
+    Ok(Allocated {
         placed: i,
         slots: n,
-    }
+    })
 }
 
 // The placing of an accepted file, whose graph and copies stand in their rows. The application bytes below F are taken from the start.
-pub fn allocate(file: &[u8], graph: &[u64], copies: &[u64], out: &mut [u8]) -> Result<Allocated, Refusal>
+pub fn allocate(
+    file: &[u8],
+    graph: &[u64],
+    copies: &[u64],
+    out: &mut [u8],
+) -> Result<Allocated, Refusal>
     requires { (7 ≤ length file.now) × (header_fits (u16_at file.now 1) (u16_at file.now 3) (u16_at file.now 5) ≡ true) × Fit file.now
         × (length graph.now ≡ 1024) × (length copies.now ≡ 1024) × (out.old ≡ laid 2048 [] []) }
     ensures { (g : Given) → Tells g graph.now copies.now → g.lo ≡ 0 → g.hi ≡ u16_at file.now 1

@@ -9,18 +9,14 @@ ghost use Rattle.graph.specs.Graphs as G;
 ghost use Rattle.allocator.specs.Placing.{Analysed, PlacesIn, PlacesOn, Places};
 
 use crate::all::{Allocated, allocate};
-use graph::Graphed;
 use records::Refusal;
 
-// The answer of `place`: how many storages were placed, how many slots opened, and the passes of all functions together; or a refusal.
+// What `place` answers: how many storages were placed, how many slots opened, and the passes of all functions together.
 #[derive(Clone, Copy)]
-pub enum Placing {
-    Done {
-        placed: usize,
-        slots: usize,
-        passes: usize,
-    },
-    Refused(Refusal),
+pub struct Placing {
+    pub placed: usize,
+    pub slots: usize,
+    pub passes: usize,
 }
 
 // The bytes of one buffer in another of the same length.
@@ -52,13 +48,13 @@ fn place_on(
 {
     let mut records = [0u8; 2048];
     match allocate(file, graph, copies, &mut records) {
-        Allocated::Done { placed, slots } => {
+        Ok(Allocated { placed, slots }) => {
             copy_bytes(out, &records);
-            Placing::Done {
+            Ok(Placing {
                 placed,
                 slots,
                 passes,
-            }
+            })
         }
         Err(r) => {
             records::clear(units);
@@ -82,10 +78,8 @@ fn place_in(
     requires { (length units.old ≡ 512) × (length live.old ≡ 2048) × (length graph.old ≡ 1024) × (length copies.old ≡ 1024) × (length out.old ≡ 2048) }
     ensures { PlacesIn file.now out.old result units.new live.new graph.new copies.new out.new }
 {
-    match graph::graph(file, units, live, graph, copies) {
-        Err(r) => Err(r),
-        Ok(n) => place_on(file, units, live, graph, copies, out, n),
-    }
+    let passes = graph::graph(file, units, live, graph, copies)?;
+    place_on(file, units, live, graph, copies, out, passes)
 }
 
 // Places every storage of a file: `out` then holds a record for each, in file order, and the other buffers what `graph` leaves there.

@@ -1,4 +1,3 @@
-pub mod Cases
 pub mod Front
 pub mod ByKind
 pub mod TableLaws

@@ -1,17 +1,18 @@
 -- Laws of the table as numbers: a row's word has its fields as bytes (`row_byte`), a byte has its field's parts (`byte-..`), no row has more
--- than six fields (`fields_short`, `end_fields_short`), and what is past the tables has none (`fields_none`, `branch_none`). Assumes nothing.
+-- than six fields (`fields_short`, `end_fields_short`), and the constant of the code has every row's word (`entry_op`, `entry_branch`) and none past the tables. Assumes nothing.
 use mathlib.Core.Path.{◌≡◌, refl, sym, ap, ◌∙◌}
 use mathlib.Core.Bool.{Bool, true, false}
-use mathlib.Core.List.{List, [], ◌∷◌}
+use mathlib.Core.List.{List, [], ◌∷◌, ◌++◌, map}
 use Prim.Native.Nat.{ℕ, zero, suc, ◌+◌, ◌*◌, ◌/◌, ◌%◌, ◌^◌, ◌≤◌, ◌<◌}
 use native.Mathlib.Omega.{arith}
 use native.Mathlib.Nat.{div-div-eq-div-mul, pow-succ', pow-le-pow_right, div-one, div-eq_of_lt, lt_of_lt_of_le, zero-div}
-use lib.ListN.{length, get_or, get_or-eq_default}
+use lib.ListN.{length, get_or, get_or-eq_default, get_or-map, get_or-append}
+use Rattle.std.proofs.lemmas.List.{get_or-append-add}
 use lib.Pow.{pow-add}
 use Rattle.fields.specs.Fields.{Class, Count, Field, no_field, D, Y, B, T, W, «V», O, single, optional, star, pair, none, r*, table, fields_of, branch_fields, end_fields_of, most, lacks, missing, takes, greatest, well_formed, field_at}
 use lib.Dec.{ltb, leb, eqb}
 use borrow.Author.Tests.{ltb-true, leb-true, ne_eqb}
-use Rattle.fields.specs.Pick.{pick, ◌and◌}
+use Rattle.fields.specs.Pick.{pick, times, ◌and◌}
 use Rattle.fields.specs.Record.{Operand}
 use Rattle.fields.proofs.Front.{and_both, pick_same}
 use Rattle.fields.specs.Table.{class_number, count_number, bit, byte_by, byte_of, row_word, entry_of, most_in, lacks_in, takes_in, greatest_in}
@@ -92,10 +93,10 @@ greatest_in_lem «V» = refl
 greatest_in_lem O = refl
 
 none_or : (c : Count) → Dec (c ≡ none)
-none_or single = no (λ e. let z : ◌≡◌ {A = ℕ} 0 1 = cc in omega arith)
-none_or optional = no (λ e. let z : ◌≡◌ {A = ℕ} 0 1 = cc in omega arith)
-none_or star = no (λ e. let z : ◌≡◌ {A = ℕ} 0 1 = cc in omega arith)
-none_or pair = no (λ e. let z : ◌≡◌ {A = ℕ} 0 1 = cc in omega arith)
+none_or single = no (λ e. cc)
+none_or optional = no (λ e. cc)
+none_or star = no (λ e. cc)
+none_or pair = no (λ e. cc)
 none_or none = yes refl
 
 most_at : (c : Count) → (c ≡ none → ⊥) → get_or (1 ∷ 1 ∷ 16 ∷ 2 ∷ []) (count_number c) 0 ≡ most c
@@ -188,14 +189,35 @@ pub entry_none : entry_of [] ≡ 0
 unfolding entry_of row_word missing
 entry_none = refl
 
--- what is no operation has no row, and no branch beyond the eight has one
-pub fields_none : (op : ℕ) → 30 ≤ op → fields_of op ≡ []
-unfolding fields_of table
-fields_none op l = get_or-eq_default table [] l
+pub entry_switch : entry_of (r* Y ∷ []) ≡ 82
+unfolding entry_of row_word byte_of missing times pick
+entry_switch = refl
 
-pub branch_none : (sub : ℕ) → 8 ≤ sub → get_or branch_fields sub [] ≡ []
+-- what is no operation has no row, and no branch beyond the eight has one
+pub entry_past : (op : ℕ) → 30 ≤ op → entry_of (fields_of op) ≡ 0
+unfolding fields_of table
+entry_past op l = ap entry_of (get_or-eq_default table [] l) ∙ entry_none
+
+pub branch_past : (sub : ℕ) → 8 ≤ sub → entry_of (get_or branch_fields sub []) ≡ 0
 unfolding branch_fields
-branch_none sub l = get_or-eq_default branch_fields [] l
+branch_past sub l = ap entry_of (get_or-eq_default branch_fields [] l) ∙ entry_none
+
+-- the entries of the constant: the operations', and behind them the branches' and Switch's
+unfoldable pub behind : List ℕ
+behind = map entry_of branch_fields ++ (entry_of (r* Y ∷ []) ∷ [])
+
+unfoldable pub entries : List ℕ
+entries = map entry_of table ++ behind
+
+pub entry_op : (op : ℕ) → op < 30 → get_or entries op 0 ≡ entry_of (fields_of op)
+unfolding entries table fields_of entry_of row_word missing
+entry_op op l = get_or-append (map entry_of table) behind 0 op l ∙ get_or-map entry_of table op []
+
+pub entry_branch : (sub : ℕ) → sub < 8 → get_or entries (30 + sub) 0 ≡ entry_of (get_or branch_fields sub [])
+unfolding entries behind table branch_fields entry_of row_word missing
+entry_branch sub l =
+    get_or-append-add (map entry_of table) behind sub 0
+    ∙ (get_or-append (map entry_of branch_fields) (entry_of (r* Y ∷ []) ∷ []) 0 sub l ∙ get_or-map entry_of branch_fields sub [])
 
 -- no row has more than six fields
 abbrev short : List (List Field) → Bool

@@ -6,7 +6,8 @@ ghost use Rattle.fields.specs.Table.{entry_of, most_in, takes_in, greatest_in};
 
 // A row for each operation, then for each branch and for Switch. A field is a byte: its class, 8 times its count (one, at most one, up to 16, none
 // or two), 32 if written, 64 if read. The highest byte of a row says how many operands there must be.
-const TABLE: [u64; 39] = [
+// It is a static, so that a number indexes it where it stands.
+static TABLE: [u64; 39] = [
     0x0200000000004221, // 0 CopyByte
     0x0200000000004423, // 1 CopyBit
     0x0100000000000023, // 2 SetBit
@@ -48,41 +49,12 @@ const TABLE: [u64; 39] = [
     0x0000000000000052, // Switch
 ];
 
-// The entry of an operation, 0 where there is none. Each arm names its place, since a constant that a variable indexes is built anew at each call.
+// The entry of an operation, 0 where there is none.
 pub fn entry_of(op: u8) -> u64
     ensures { result ≡ entry_of (fields_of op) }
 {
     match op {
-        0 => TABLE[0],
-        1 => TABLE[1],
-        2 => TABLE[2],
-        3 => TABLE[3],
-        4 => TABLE[4],
-        5 => TABLE[5],
-        6 => TABLE[6],
-        7 => TABLE[7],
-        8 => TABLE[8],
-        9 => TABLE[9],
-        10 => TABLE[10],
-        11 => TABLE[11],
-        12 => TABLE[12],
-        13 => TABLE[13],
-        14 => TABLE[14],
-        15 => TABLE[15],
-        16 => TABLE[16],
-        17 => TABLE[17],
-        18 => TABLE[18],
-        19 => TABLE[19],
-        20 => TABLE[20],
-        21 => TABLE[21],
-        22 => TABLE[22],
-        23 => TABLE[23],
-        24 => TABLE[24],
-        25 => TABLE[25],
-        26 => TABLE[26],
-        27 => TABLE[27],
-        28 => TABLE[28],
-        29 => TABLE[29],
+        0..=29 => TABLE[op as usize],
         _ => 0,
     }
 }
@@ -92,31 +64,40 @@ fn branch_entry(sub: u8) -> u64
     ensures { result ≡ entry_of (get_or branch_fields sub []) }
 {
     match sub {
-        0 => TABLE[30],
-        1 => TABLE[31],
-        2 => TABLE[32],
-        3 => TABLE[33],
-        4 => TABLE[34],
-        5 => TABLE[35],
-        6 => TABLE[36],
-        7 => TABLE[37],
+        0..=7 => TABLE[30 + sub as usize],
         _ => 0,
     }
 }
 
 // The entry of a terminator.
+#[tactic(auto, using(crate::proofs::TableLaws::entry_none, crate::proofs::TableLaws::entry_switch), unfolding(crate::specs::Pick::pick, crate::specs::Fields::end_fields_of))]
 pub fn end_entry_of(op: u8, sub: u8) -> u64
     ensures { result ≡ entry_of (end_fields_of op sub) }
 {
     match op {
         1 => branch_entry(sub),
         2 => TABLE[38],
-        4 => TABLE[28],
+        4 => entry_of(28),
         _ => 0,
     }
 }
 
+// How many targets a terminator takes: at least, and at most.
+#[tactic(auto, unfolding(crate::specs::Fields::least_targets, crate::specs::Fields::most_targets))]
+pub fn targets_of(op: u8) -> (u16, u16)
+    ensures least { result.0 ≡ least_targets op }
+    ensures most { result.1 ≡ most_targets op }
+{
+    match op {
+        0 => (1, 1),
+        1 => (2, 2),
+        2 => (1, 256),
+        _ => (0, 0),
+    }
+}
+
 // How many targets a terminator takes at least, and at most.
+#[tactic(auto, unfolding(crate::specs::Fields::least_targets))]
 pub fn least_targets(op: u8) -> u16
     ensures { result ≡ least_targets op }
 {
@@ -128,6 +109,7 @@ pub fn least_targets(op: u8) -> u16
     }
 }
 
+#[tactic(auto, unfolding(crate::specs::Fields::most_targets))]
 pub fn most_targets(op: u8) -> u16
     ensures { result ≡ most_targets op }
 {
@@ -140,6 +122,7 @@ pub fn most_targets(op: u8) -> u16
 }
 
 // The field of a number, 0 past the row.
+#[tactic(auto, using(crate::proofs::TableLaws::byte_shifted, crate::proofs::TableLaws::byte_past))]
 pub fn field_in(row: u64, field: u8) -> u8
     ensures { result ≡ row / 256 ^ field % 256 }
 {
@@ -150,104 +133,61 @@ pub fn field_in(row: u64, field: u8) -> u8
 }
 
 // How many operands a field takes at most.
+#[tactic(auto, unfolding(crate::specs::Table::most_in, crate::specs::Pick::pick))]
 fn most_in(b: u8) -> u8
     ensures { result ≡ most_in b }
 {
-    if b == 0 {
-        return 0;
-    }
-    match b / 8 % 4 {
-        2 => 16,
-        3 => 2,
+    match (b, b / 8 % 4) {
+        (0, _) => 0,
+        (_, 2) => 16,
+        (_, 3) => 2,
         _ => 1,
     }
 }
 
-fn either(shape: u8, a: u8, b: u8) -> bool
-    ensures { result ≡ (eqb shape a or eqb shape b) }
-{
-    if shape == a {
-        return true;
-    }
-    shape == b
-}
-
 // The shapes that a class takes: 0 immediate, 1 lane, 2 bit, 3 object.
+#[tactic(auto, unfolding(crate::specs::Table::takes_in, crate::specs::Pick::pick))]
 fn takes_in(class: u8, shape: u8) -> bool
     ensures { result ≡ takes_in class shape }
 {
-    if class == 1 {
-        return shape == 1;
+    match class {
+        1 => shape == 1,
+        2 => matches!(shape, 0 | 1),
+        3 => shape == 2,
+        4 => matches!(shape, 0 | 2),
+        5 => matches!(shape, 1 | 2),
+        6 => matches!(shape, 0 | 1 | 2),
+        _ => shape == 3,
     }
-    if class == 2 {
-        return either(shape, 0, 1);
-    }
-    if class == 3 {
-        return shape == 2;
-    }
-    if class == 4 {
-        return either(shape, 0, 2);
-    }
-    if class == 5 {
-        return either(shape, 1, 2);
-    }
-    if class == 6 {
-        if shape == 0 {
-            return true;
-        }
-        return either(shape, 1, 2);
-    }
-    shape == 3
 }
 
 // The greatest immediate of a class.
+#[tactic(auto, unfolding(crate::specs::Table::greatest_in, crate::specs::Pick::pick))]
 fn greatest_in(class: u8) -> u16
     ensures { result ≡ greatest_in class }
 {
     if class == 4 { 1 } else { 255 }
 }
 
+// An immediate has id 0 and its value for offset, at most `top`; a lane has any offset, a bit and an object none.
+#[tactic(auto, unfolding(crate::specs::Fields::well_formed, crate::specs::Pick::pick))]
 fn well_formed(top: u16, shape: u8, id: u16, offset: u16) -> bool
     ensures { result ≡ well_formed top shape id offset }
 {
-    if shape == 0 {
-        if id != 0 {
-            return false;
-        }
-        return offset <= top;
+    match shape {
+        0 => id == 0 && offset <= top,
+        1 => true,
+        _ => offset == 0,
     }
-    if shape == 1 {
-        return true;
-    }
-    offset == 0
-}
-
-// The verdict on an operand's order and count, with those on its shape and numbers.
-fn operand_allowed(last: u8, n: u8, most: u8, field: u8, takes: bool, formed: bool) -> bool
-    ensures { result ≡ (leb last field and (ltb n most and (takes and formed))) }
-{
-    if field < last {
-        return false;
-    }
-    if most <= n {
-        return false;
-    }
-    if takes {
-        return formed;
-    }
-    false
 }
 
 // An operand fits the field `b`, after `n` operands of that field, where `last` is the last field so far.
+#[tactic(auto, unfolding(crate::specs::Pick::pick))]
 pub fn operand_fits(b: u8, last: u8, n: u8, field: u8, shape: u8, id: u16, offset: u16) -> bool
     ensures { result ≡ (leb last field and (ltb n (most_in b) and (takes_in (b % 8) shape and well_formed (greatest_in (b % 8)) shape id offset))) }
 {
-    operand_allowed(
-        last,
-        n,
-        most_in(b),
-        field,
-        takes_in(b % 8, shape),
-        well_formed(greatest_in(b % 8), shape, id, offset),
-    )
+    last <= field
+        && n < most_in(b)
+        && takes_in(b % 8, shape)
+        && well_formed(greatest_in(b % 8), shape, id, offset)
 }

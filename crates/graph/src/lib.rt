@@ -7,14 +7,7 @@ mod walk;
 ghost use Rattle.std.specs.Prelude.{◌≡◌, length};
 ghost use Rattle.graph.specs.Graphs.{GraphsIn, Graphs};
 
-use records::{Checked, Refusal, number_units};
-
-// The answer of `graph`: the passes of all functions together, or a refusal.
-#[derive(Clone, Copy)]
-pub enum Graphed {
-    Passes(usize),
-    Refused(Refusal),
-}
+use records::{Refusal, number_units};
 
 // The graph of a file that is not checked yet, in just the needed words.
 fn graph_in(
@@ -32,12 +25,8 @@ fn graph_in(
     rows::clear(copies, 0, 1024);
     let mut numbers = [0u16; 2341];
     let mut table = [0u16; 512];
-    match number_units(file, units, &mut numbers, &mut table) {
-        Err(r) => Err(r),
-        Ok(n) => Ok(walk::graph_of(
-            file, &numbers, &table, units, n, live, graph, copies,
-        )),
-    }
+    let n = number_units(file, units, &mut numbers, &mut table)?;
+    Ok(walk::graph_of(file, &numbers, &table, units, n, live, graph, copies))
 }
 
 // Which storages interfere, both ways, and which were copied into one another, in the smaller id's row; with the passes of all functions. `units` then

@@ -5,7 +5,7 @@ ghost use Rattle.io.specs.Counts.{IsPrefixLen};
 ghost use Rattle.lines.specs.Text.{Follows, unit_line, units_text, refusal_text, answer_text};
 
 use crate::text::{put, put_number, put_shape};
-use records::{Checked, Refusal};
+use records::Refusal;
 
 // Lays out what `check` answered, from the start of `page`, and answers where the text ends.
 pub fn put_answer(page: &mut [u8], units: &[u32; 512], checked: Result<usize, Refusal>) -> usize

@@ -18,18 +18,11 @@ ghost use Rattle.liveness.specs.Lives.{live_words, lived_by, LivesIn, Lives};
 
 use crate::survey::survey;
 use passes::settle;
-use records::{Checked, Refusal, number_units};
+use records::{Refusal, number_units};
 use units::cursor::Cursor;
 
 // What the table of functions has for a number of no function.
 const NONE: usize = 65535;
-
-// The answer of `live`: how many passes the function took, or a refusal.
-#[derive(Clone, Copy)]
-pub enum Lived {
-    Passes(usize),
-    Refused(Refusal),
-}
 
 // The cursor behind the record of a function; its place is NONE where there is no such function.
 fn own_of(table: &[u16], number: usize) -> Cursor
@@ -102,21 +95,29 @@ fn live_of(
 }
 
 // The same of a file that is not checked yet.
-fn live_in(file: &[u8], number: usize, units: &mut [u32], live: &mut [u64]) -> Result<usize, Refusal>
+fn live_in(
+    file: &[u8],
+    number: usize,
+    units: &mut [u32],
+    live: &mut [u64],
+) -> Result<usize, Refusal>
     requires { (length units.old ≡ 512) × (length live.old ≡ 2048) }
     ensures { LivesIn file.now number result units.new live.new }
 {
     rows::clear(live, 0, 2048);
     let mut numbers = [0u16; 2341];
     let mut table = [0u16; 512];
-    match number_units(file, units, &mut numbers, &mut table) {
-        Err(r) => Err(r),
-        Ok(_) => live_of(file, number, units, &numbers, &table, live),
-    }
+    number_units(file, units, &mut numbers, &mut table)?;
+    live_of(file, number, units, &numbers, &table, live)
 }
 
 // Live-in and live-out of every block of a function, as rows of units, and how many passes they took; `units` then holds the file's units by number.
-pub fn live(file: &[u8], number: usize, units: &mut [u32], live: &mut [u64]) -> Result<usize, Refusal>
+pub fn live(
+    file: &[u8],
+    number: usize,
+    units: &mut [u32],
+    live: &mut [u64],
+) -> Result<usize, Refusal>
     ensures { Lives file.now number units.old live.old result units.new live.new }
 {
     if units.len() < 512 {

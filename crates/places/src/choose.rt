@@ -9,18 +9,11 @@ ghost use Rattle.places.specs.Legal.{Small, FixedSmall};
 ghost use Rattle.places.specs.Place.{Given, fitted, name_bit, name_bytes, work_bit, app_bit, choose_bit, work_bytes, app_bytes, choose_bytes, choose_free, choose_fixed, choose};
 
 use crate::memory::{Floor, is_clear};
-use maps::{Found, FoundBit, first_clear, high_bit};
+use maps::{first_clear, high_bit};
 use records::Refusal;
 use storages::{
-    Fixed, Placement, Storage, allows_region, code_of, is_alone, kind_matches, room_of, takes_bit,
+    Placement, Storage, allows_region, code_of, is_alone, kind_matches, room_of, takes_bit,
 };
-
-// The placement that was chosen, or why there is none.
-#[derive(Clone, Copy)]
-pub enum Chosen {
-    Spot(Placement),
-    Refused(Refusal),
-}
 
 // A place that was found, as a number of two bytes.
 fn narrow(n: usize) -> u16
@@ -132,7 +125,13 @@ fn app_bit(s: Storage, found: Option<(usize, usize)>, work: &[u8]) -> Result<Pla
 }
 
 // A bit: application RAM first, whether or not the storage must be direct. Bytes lo to hi - 1 of it are looked through.
-pub fn choose_bit(s: Storage, app: &[u8], work: &[u8], lo: usize, hi: usize) -> Result<Placement, Refusal>
+pub fn choose_bit(
+    s: Storage,
+    app: &[u8],
+    work: &[u8],
+    lo: usize,
+    hi: usize,
+) -> Result<Placement, Refusal>
     requires { (hi ≤ length app.now) × (length app.now ≤ 256) × (length work.now ≤ 512) }
     ensures { (g : Given) → g.lo ≡ lo → g.hi ≡ hi → result ≡ choose_bit g s (record { app = app.now; wrk = work.now }) }
 {
@@ -157,7 +156,12 @@ fn work_bytes(s: Storage, work: &[u8], low: usize) -> Result<Placement, Refusal>
 }
 
 // The window that was found in application RAM; without one a direct storage is refused, and others try on.
-fn app_bytes(s: Storage, found: Option<usize>, work: &[u8], low: usize) -> Result<Placement, Refusal>
+fn app_bytes(
+    s: Storage,
+    found: Option<usize>,
+    work: &[u8],
+    low: usize,
+) -> Result<Placement, Refusal>
     requires { FoundIn 256 found × (length work.now ≤ 512) × TakenBelow work.now low }
     ensures { result ≡ app_bytes s found work.now }
 {
@@ -244,7 +248,14 @@ pub fn choose_fixed(s: Storage, p: Placement, app: &[u8], work: &[u8]) -> Result
 }
 
 // A place of its own for a storage.
-pub fn choose(s: Storage, app: &[u8], work: &[u8], floor: Floor, lo: usize, hi: usize) -> Result<Placement, Refusal>
+pub fn choose(
+    s: Storage,
+    app: &[u8],
+    work: &[u8],
+    floor: Floor,
+    lo: usize,
+    hi: usize,
+) -> Result<Placement, Refusal>
     requires { (hi ≤ length app.now) × (length app.now ≤ 256) × (length work.now ≤ 512) × FixedSmall s.len s.fixed × Solid floor app.now work.now }
     ensures { (g : Given) → g.lo ≡ lo → g.hi ≡ hi → result ≡ choose g s (record { app = app.now; wrk = work.now }) }
 {

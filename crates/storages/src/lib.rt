@@ -259,7 +259,15 @@ pub fn takes_bit(kind: u8) -> bool
 pub fn tries_slots(s: Storage) -> bool
     ensures { result ≡ tries s }
 {
-    s.fixed.is_none() && s.owner != 65535 && s.kind != 3
+    match s.fixed {
+        Some(_) => false,
+        None => {
+            if s.owner == 65535 {
+                return false;
+            }
+            s.kind != 3
+        }
+    }
 }
 
 // Does a code hold one bit?

@@ -134,11 +134,11 @@ module _ (x : State) (list : List Slot) (n : ℕ) (ids kin numbers : List ℕ) (
     StandFor l m ss = (m ≡ length ss) × (take m l ≡ map (λ (o : Opened). o.slot) ss) × (m ≤ i + 1)
 
     opened_for : n < length list
-        → StandFor (list_after list n s (pick (tries s) (Ok (Some p)) (Ok None))) (count_after n (pick (tries s) (Ok (Some p)) (Ok None))) (pick (tries s) (x.slots ++ (own ∷ [])) x.slots)
+        → StandFor (list_after list n s (Ok (pick (tries s) (Some p) None))) (count_after n (Ok (pick (tries s) (Some p) None))) (pick (tries s) (x.slots ++ (own ∷ [])) x.slots)
     unfolding pick
     opened_for l = go (tries s)
       where
-        go : (b : Bool) → StandFor (list_after list n s (pick b (Ok (Some p)) (Ok None))) (count_after n (pick b (Ok (Some p)) (Ok None))) (pick b (x.slots ++ (own ∷ [])) x.slots)
+        go : (b : Bool) → StandFor (list_after list n s (Ok (pick b (Some p) None))) (count_after n (Ok (pick b (Some p) None))) (pick b (x.slots ++ (own ∷ [])) x.slots)
         go true = (
           omega (arith, h.many, length-append x.slots (own ∷ [])),
           front_more list _ n (opened s p) l h.slots_are ∙ sym (map-append (λ (o : Opened). o.slot) x.slots (own ∷ [])),
@@ -197,7 +197,7 @@ module _ (s : Storage) (x : State) (app wrk : List ℕ) (list : List Slot) (n : 
   -- The storage takes a place of its own, and may open a slot there.
   module _ (app' wrk' : List ℕ) (r : Room) (ll : length list ≡ 256) (e : number ≡ pick (tries s) n 256) (er : r ≡ room s.len p)
       (em : record { app = app'; wrk = wrk' } ≡ reserve r (record { app = app; wrk = wrk })) where
-    taken_held : Held (taken s x p) app' wrk' (list_after list n s (pick (tries s) (Ok (Some p)) (Ok None))) (count_after n (pick (tries s) (Ok (Some p)) (Ok None))) ids' kin' numbers' out' (i + 1)
+    taken_held : Held (taken s x p) app' wrk' (list_after list n s (Ok (pick (tries s) (Some p) None))) (count_after n (Ok (pick (tries s) (Some p) None))) ids' kin' numbers' out' (i + 1)
     taken_held =
         let k = h.kept in
         let y : Placed = record { what = s; spot = p; slot = pick (tries s) (Some (length x.slots)) None } in
@@ -209,20 +209,20 @@ module _ (s : Storage) (x : State) (app wrk : List ℕ) (list : List Slot) (n : 
           wrk_is = ap (λ (m : Maps). m.wrk) maps;
           kept =
               rw (ei, ew, en)
-              (kept_more x list n ids kin numbers i k li lk ln room_left (reserve (room s.len p) x.maps) _ y (list_after list n s (pick (tries s) (Ok (Some p)) (Ok None))) (count_after n (pick (tries s) (Ok (Some p)) (Ok None))) number
+              (kept_more x list n ids kin numbers i k li lk ln room_left (reserve (room s.len p) x.maps) _ y (list_after list n s (Ok (pick (tries s) (Some p) None))) (count_after n (Ok (pick (tries s) (Some p) None))) number
               (number_for x list n ids kin numbers i k s p number e) low (take_numbered s x k.numbered p (reserve (room s.len p) x.maps) (tries s))
               (take_keyed s x k.numbered p (tries s) k.keyed) o.0 o.1 o.2);
           out_is = eo ∙ records_more out x.placed y i k.count room_left h.out_is;
         }
 
     -- The verdict tells whether it did.
-    pub taken_turned : (o : Outcome) (v : Result (Option Placement) Refusal) → o ≡ done (taken s x p) → v ≡ pick (tries s) (Ok (Some p)) (Ok None)
+    pub taken_turned : (o : Outcome) (v : Result (Option Placement) Refusal) → o ≡ done (taken s x p) → v ≡ Ok (pick (tries s) (Some p) None)
         → TurnedBy o v app' wrk' (list_after list n s v) (count_after n v) ids' kin' numbers' out' (i + 1)
     unfolding pick
     taken_turned o v q ev =
         subst (λ (u : Result (Option Placement) Refusal). TurnedBy o u app' wrk' (list_after list n s u) (count_after n u) ids' kin' numbers' out' (i + 1)) (sym ev) (go (tries s) taken_held)
       where
-        go : (b : Bool) → Held (taken s x p) app' wrk' (list_after list n s (pick b (Ok (Some p)) (Ok None))) (count_after n (pick b (Ok (Some p)) (Ok None))) ids' kin' numbers' out' (i + 1)
-            → TurnedBy o (pick b (Ok (Some p)) (Ok None)) app' wrk' (list_after list n s (pick b (Ok (Some p)) (Ok None))) (count_after n (pick b (Ok (Some p)) (Ok None))) ids' kin' numbers' out' (i + 1)
+        go : (b : Bool) → Held (taken s x p) app' wrk' (list_after list n s (Ok (pick b (Some p) None))) (count_after n (Ok (pick b (Some p) None))) ids' kin' numbers' out' (i + 1)
+            → TurnedBy o (Ok (pick b (Some p) None)) app' wrk' (list_after list n s (Ok (pick b (Some p) None))) (count_after n (Ok (pick b (Some p) None))) ids' kin' numbers' out' (i + 1)
         go true t = (taken s x p, q, t)
         go false t = (taken s x p, q, t)

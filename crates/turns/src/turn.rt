@@ -1,5 +1,5 @@
 // One storage is placed: into a slot, or at a place of its own.
-ghost use Rattle.std.specs.Prelude.{◌≡◌, List, ◌+◌, ◌*◌, ◌/◌, ◌%◌, ◌≤◌, ◌<◌, length, set};
+ghost use Rattle.std.specs.Prelude.{◌≡◌, Some, None, List, ◌+◌, ◌*◌, ◌/◌, ◌%◌, ◌≤◌, ◌<◌, length, set};
 ghost use Rattle.rows.specs.Row as W;
 ghost use Rattle.fields.specs.Pick.{pick};
 ghost use Rattle.storages.specs.Storage.{tries};
@@ -10,19 +10,11 @@ ghost use Rattle.places.specs.Place.{Given, State, record_at, choose, take_room,
 ghost use Rattle.turns.specs.Held.{key_of, Tells, linked_at, Held, list_after, count_after, TurnedBy};
 
 use crate::marks::{key_of, slot_for};
-use places::choose::{Chosen, choose};
+use places::choose::choose;
 use places::memory::{Floor, take_room};
 use records::Refusal;
 use slots::{Page, Slot, placement_at};
 use storages::{Placement, Storage, a_of, b_of, code_of, room_of, tries_slots};
-
-// A storage was placed, or was placed and opens a slot there, or is refused.
-#[derive(Clone, Copy)]
-pub enum Verdict {
-    Placed,
-    Opened(Placement),
-    Refused(Refusal),
-}
 
 // A number of two bytes, low byte first.
 fn put_u16(out: &mut [u8], at: usize, n: u16)
@@ -77,13 +69,10 @@ fn note(
 }
 
 // A storage that may share opens a slot at its place.
-fn opens(s: Storage, p: Placement) -> Result<Option<Placement>, Refusal>
-    ensures { result ≡ pick (tries s) (Verdict.Opened p) Verdict.Placed }
+fn opens(s: Storage, p: Placement) -> Option<Placement>
+    ensures { result ≡ pick (tries s) (Some p) None }
 {
-    if tries_slots(s) {
-        return Ok(Some(p));
-    }
-    Ok(None)
+    if tries_slots(s) { Some(p) } else { None }
 }
 
 // The number of the slot that a storage opens: the next one, or 256 if it may not share.
@@ -93,7 +82,7 @@ fn number_for(n: usize, s: Storage) -> usize
     if tries_slots(s) { n } else { 256 }
 }
 
-// A storage takes a place of its own.
+// A storage takes a place of its own, and answers where it opens a slot, if it does.
 fn take_own(
     n: usize,
     s: Storage,
@@ -112,17 +101,13 @@ fn take_own(
         → Held x app.old work.old list n ids.old kin.old numbers.old out.old i
         → TurnedBy (take_room s x (choose g s x.maps)) result app.new work.new (list_after list n s result) (count_after n result) ids.new kin.new numbers.new out.new (i + 1) }
 {
-    match choose(s, app, work, floor, 0, app.len()) {
-        Err(r) => Err(r),
-        Ok(p) => {
-            take_room(app, work, room_of(s.len, p));
-            note(ids, kin, numbers, out, i, s, number_for(n, s), p);
-            opens(s, p)
-        }
-    }
+    let p = choose(s, app, work, floor, 0, app.len())?;
+    take_room(app, work, room_of(s.len, p));
+    note(ids, kin, numbers, out, i, s, number_for(n, s), p);
+    Ok(opens(s, p))
 }
 
-// The i-th storage, after those before it.
+// The i-th storage, after those before it. Answers where it opens a slot, if it does.
 pub fn place_one(
     list: [Page; 16],
     n: usize,

@@ -1,6 +1,6 @@
 -- Laws of the queries' outcomes. Each way out of the code is one equation of the definitions: a short buffer, a refusal of the file or of the place,
 -- and a step that is there. `asks_decide`, `tells_decide`: any two outcomes that a contract permits coincide.
-use Rattle.std.specs.Prelude.{Result, Ok, Err, Unit, tt, true, false, Bool}
+use Rattle.std.specs.Prelude.{Option, Some, None, Result, Ok, Err}
 use mathlib.Core.Path.{◌≡◌, refl, sym, ap, ap₂, ◌∙◌}
 use mathlib.Core.Logic.{◌⊎◌, inl, inr}
 use mathlib.Core.Bool.{Bool, true, false}
@@ -26,13 +26,10 @@ use Rattle.records.proofs.Outcomes.{cleared, laid_rest}
 use Rattle.units.specs.Uses.{reads, writes, effect}
 use Rattle.units.specs.Rows.{unit_row, storage_row}
 use Rattle.units.specs.Along.{from, function_from, step_from, IsStep, StandsAt, Sane, Ready, SoundBoth, Locates}
-use Rattle.units.specs.Ask.{Asked, Query, asked_of, asked, Asks, Told, yes_no, told_of, told, Tells}
+use Rattle.units.specs.Ask.{Asked, Query, asked_of, asked, Asks, Told, told_of, told, Tells}
 use Rattle.units.specs.Seek.{Refuses, Reached, Seeks, Shown, Shows, given, storages_below}
 use Rattle.units.specs.declared.cursor.Cursor.{Cursor}
-use Rattle.units.specs.declared.locate.Located.{Located}
-use Rattle.units.specs.declared.locate.Located.TheVariants.{At, Nowhere}
-use Rattle.units.specs.declared.ask.Sought.{Sought}
-use Rattle.units.specs.declared.ask.Sought.TheVariants as sought
+use Rattle.units.specs.declared.locate.Site.{Site}
 use Rattle.units.proofs.Indexing.{tabled_index}
 use Rattle.units.proofs.Storages.{storages_are, reads_within, writes_within}
 
@@ -106,21 +103,10 @@ module _ (ends : Bool) (op sub : ℕ) where
     pub effect_high_none : (op ≡ 26 → ⊥) → 15 < op → op < 27 → leb 27 op ≡ effect (step_of ends op sub 0 empty)
     effect_high_none d l k = let q = lt-leb 27 op k in q ∙ sym (pick_no _ _ _ q) ∙ high d l
 
-module _ (t : List ℕ) (r : Bool) (h : r ≡ effect (step_of (eqb (get_or t 0 0) 7) (get_or t 1 0) (get_or t 2 0) 0 empty)) where
-  effect_there : r ≡ effect (step_from t 0)
-  unfolding effect u8_at
-  effect_there = h
-
-  pub effect_yes : r ≡ true → (Ok true) ≡ yes_no (effect (step_from t 0))
-  effect_yes e = ap yes_no (sym e ∙ effect_there)
-
-  pub effect_no : r ≡ false → (Ok false) ≡ yes_no (effect (step_from t 0))
-  effect_no e = ap yes_no (sym e ∙ effect_there)
-
--- the step at the front of a tail of the file
-effect_here : (f t : List ℕ) (at : ℕ) (e : Result Bool Refusal) → t ≡ drop at f → e ≡ yes_no (effect (step_from t 0)) → e ≡ yes_no (effect (step_from f at))
+-- The step at the front of a tail of the file.
+effect_here : (f t : List ℕ) (at : ℕ) (b : Bool) → t ≡ drop at f → b ≡ effect (step_from t 0) → b ≡ effect (step_from f at)
 unfolding effect
-effect_here f t at e p q = rw p at q
+effect_here f t at b p q = rw p at q
 
 -- The search for the step -----------------------------------------------------------------------------------------------------------------
 
@@ -148,19 +134,19 @@ module _ (f : List ℕ) (place : ℕ) where
             }
         go (refusal x) q p = let i = ap (λ (o : Outcome). o.answer) p in let z : ◌≡◌ {A = ℕ} 0 1 = cc in absurd (omega arith)
 
-    pub seeks_refused : (x : Refusal) → r ≡ Err x → Seeks f place (sought.Refused x) words found table
+    pub seeks_refused : (x : Refusal) → r ≡ Err x → Seeks f place (Err x) words found table
     seeks_refused x e = go (check one f) refl h.0
       where
-        go : (a : Answer) → check one f ≡ a → record { answer = r; words = words } ≡ outcome_by one [] a → Seeks f place (sought.Refused x) words found table
+        go : (a : Answer) → check one f ≡ a → record { answer = r; words = words } ≡ outcome_by one [] a → Seeks f place (Err x) words found table
         go (units us) q p = let i = ap (λ (o : Outcome). o.answer) p in let z : ◌≡◌ {A = ℕ} 0 1 = cc in absurd (omega arith)
         go (refusal y) q p =
             let i : r ≡ Err y = ap (λ (o : Outcome). o.answer) p in
             let k : y ≡ x = cc in
             (inl (rw (← k) q), ap (λ (o : Outcome). o.words) p)
 
-    module _ (bytes : (i : ℕ) → get_or f i 0 < 256) (n : ℕ) (e : r ≡ Ok n) (l : Located) (s : SoundBoth f l) (k : (us : List ℕ) → check one f ≡ units us → Locates f place l) where
-      pub seeks_here : (own here : Cursor) → l ≡ At own here → Seeks f place (sought.Here own here) words found table
-      seeks_here own here q =
+    module _ (bytes : (i : ℕ) → get_or f i 0 < 256) (n : ℕ) (e : r ≡ Ok n) (l : Option Site) (s : SoundBoth f l) (k : (us : List ℕ) → check one f ≡ units us → Locates f place l) where
+      pub seeks_here : (site : Site) → l ≡ Some site → Seeks f place (Ok site) words found table
+      seeks_here site q =
           let a = numbered_units bytes n e in
           record {
             us = a.us;
@@ -172,33 +158,33 @@ module _ (f : List ℕ) (place : ℕ) where
             located = rw q at (k a.us a.ready.accepted);
           }
 
-      pub seeks_absent : (words' : List ℕ) (m : ℕ) → l ≡ Nowhere → words' ≡ replicate m 0 → m ≡ 512 → Seeks f place (sought.Refused (Absent place)) words' found table
+      pub seeks_absent : (words' : List ℕ) (m : ℕ) → l ≡ None → words' ≡ replicate m 0 → m ≡ 512 → Seeks f place (Err (Absent place)) words' found table
       seeks_absent words' m q c d =
           let a = numbered_units bytes n e in
           let away : step_at one f place ≡ nowhere = rw q at (k a.us a.ready.accepted) in
           (inr (record { us = a.us; accepted = a.ready.accepted; away = away; says = refl }), c ∙ cleared m d)
 
   -- what was sought, where it was found
-  module _ (r : Sought) (words found table : List ℕ) (h : Seeks f place r words found table) where
-    pub reached : (own here : Cursor) → r ≡ sought.Here own here → Reached f place own here words found table
-    reached own here e = rw e at h
+  module _ (r : Result Site Refusal) (words found table : List ℕ) (h : Seeks f place r words found table) where
+    pub reached : (site : Site) → r ≡ Ok site → Reached f place site words found table
+    reached site e = rw e at h
 
-    pub sought_refused : (x : Refusal) → r ≡ sought.Refused x → Refuses f place x × (words ≡ laid 512 [] [])
+    pub sought_refused : (x : Refusal) → r ≡ Err x → Refuses f place x × (words ≡ laid 512 [] [])
     sought_refused x e = rw e at h
 
   -- The rows of the step ---------------------------------------------------------------------------------------------------------------------
 
-  module _ (own here next : Cursor) (words found table : List ℕ) (h : Reached f place own here words found table) (reads' writes' : List ℕ) where
-    pub shows_done : ((us : List ℕ) (fn : Function) → Ready f us found table → StandsAt f own
-        → fn.abis ≡ (from f own.at).abis → StandsAt f here → IsStep f here.at
-        → (reads' ≡ unit_row one us (reads one (program one f) fn (step_from f here.at))) × (writes' ≡ unit_row one us (writes one (program one f) (step_from f here.at))) × StandsAt f next)
+  module _ (site : Site) (next : Cursor) (words found table : List ℕ) (h : Reached f place site words found table) (reads' writes' : List ℕ) where
+    pub shows_done : ((us : List ℕ) (fn : Function) → Ready f us found table → StandsAt f site.own
+        → fn.abis ≡ (from f site.own.at).abis → StandsAt f site.here → IsStep f site.here.at
+        → (reads' ≡ unit_row one us (reads one (program one f) fn (step_from f site.here.at))) × (writes' ≡ unit_row one us (writes one (program one f) (step_from f site.here.at))) × StandsAt f next)
         → Shows f place (Ok tt) words reads' writes'
     shows_done k =
         let l = h.located in
-        let both = k h.us (function_from f l.0 own.at) h.ready l.2 refl l.3 (rw l.4 l.5) in
+        let both = k h.us (function_from f l.0 site.own.at) h.ready l.2 refl l.3 (rw l.4 l.5) in
         record {
           us = h.us;
-          fn = function_from f l.0 own.at;
+          fn = function_from f l.0 site.own.at;
           st = step_from f place;
           accepted = h.ready.accepted;
           there = l.1;
@@ -270,11 +256,11 @@ module _ (f : List ℕ) (place : ℕ) where
       tells_refused x (inl e) h = rw (told_long, e, h, laid_rest 512 [] before)
       tells_refused x (inr e) h = rw (told_long, e.accepted, e.away, e.says, h, laid_rest 512 [] before)
 
-      pub tells_here : (own here : Cursor) (e : Result Bool Refusal) (t : List ℕ) → Reached f place own here words found table → t ≡ drop here.at f → e ≡ yes_no (effect (step_from t 0))
-          → Tells f place before e (words ++ drop 512 before)
-      tells_here own here e t h p q =
+      pub tells_here : (site : Site) (b : Bool) (t : List ℕ) → Reached f place site words found table → t ≡ drop site.here.at f → b ≡ effect (step_from t 0)
+          → Tells f place before (Ok b) (words ++ drop 512 before)
+      tells_here site b t h p q =
           let l = h.located in
-          let k : e ≡ yes_no (effect (step_from f place)) = rw l.4 at (effect_here f t here.at e p q) in
+          let k : b ≡ effect (step_from f place) = rw l.4 at (effect_here f t site.here.at b p q) in
           rw (told_long, h.ready.accepted, l.1, k, h.words_are, laid_rest 512 h.us before)
 
   -- Any two outcomes that the contract of a query permits coincide.

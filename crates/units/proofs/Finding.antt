@@ -1,5 +1,6 @@
 -- The walk to a place. What the definition finds from the front on is what it finds from the cursor on, in the function behind the last function
 -- record; before the first one that is the header's, which has neither ABI records nor blocks, and so is the definition's.
+use Rattle.std.specs.Prelude.{Some}
 use mathlib.Core.Path.{◌≡◌, refl, sym, ap, ◌∙◌}
 use mathlib.Core.Logic.{◌⊎◌, inl, inr, ⊎_elim}
 use mathlib.Core.Bool.{Bool, true, false, true≢false}
@@ -28,7 +29,6 @@ use Rattle.records.proofs.Accepted.{read_out}
 use Rattle.records.specs.Index.{brought}
 use Rattle.units.specs.Along.{from, Stands, StandsAt, function_from, step_from, IsStep, brought_by, Locates}
 use Rattle.units.specs.declared.cursor.Cursor.{Cursor}
-use Rattle.units.specs.declared.locate.Located.TheVariants.{At}
 use Rattle.units.proofs.Standing.{brought_kind, stands_start, stands_on}
 
 -- One piece at a time -------------------------------------------------------------------------------------------------------------------------
@@ -181,7 +181,7 @@ module _ (f : List ℕ) (place : ℕ) (own : Cursor) (at k kind len : ℕ) (insi
       going_away e a b =
           unfolded ∙ pick_yes _ _ _ (eq-eqb at place e) ∙ starts_none (drop at f) fn after (λ q. a (sym first_kind ∙ q)) (λ q. b (sym first_kind ∙ q)) positive
 
-      pub going_here : at ≡ place → (kind ≡ 5) ⊎ (kind ≡ 7) → Locates f place (At own (record { at = at; k = k }))
+      pub going_here : at ≡ place → (kind ≡ 5) ⊎ (kind ≡ 7) → Locates f place (Some (record { own = own; here = record { at = at; k = k } }))
       going_here e h = (g.n, found, g.owned, g.stands, e, rw e at kinds)
         where
           kinds : IsStep f at

@@ -1,6 +1,6 @@
 -- How the code's cursors stand for places in a file. Contracts of the functions inside this crate and of the walks above it cite it; no public
 -- contract does.
-use Rattle.std.specs.Prelude.{◌≡◌, ◌⊎◌, List, [], ◌∷◌, ◌++◌, ℕ, ◌+◌, ◌*◌, ◌≤◌, ◌<◌, eqb, length, get_or, take, drop}
+use Rattle.std.specs.Prelude.{◌≡◌, ◌⊎◌, List, [], ◌∷◌, ◌++◌, ℕ, ◌+◌, ◌*◌, ◌≤◌, ◌<◌, eqb, length, get_or, take, drop, Option, Some, None}
 use Rattle.fields.specs.Pick.{pick}
 use Rattle.fields.specs.Edition.{Edition, one}
 use Rattle.fields.specs.Record.{Rec, header, storage, function, abi, block, instruction, operand, terminator, target, end, u8_at, word_of}
@@ -10,8 +10,7 @@ use Rattle.records.specs.Program.{Step, Function, Rest, step_of, function_of, ga
 use Rattle.records.specs.Place.{step, nowhere, step_at}
 use Rattle.units.specs.Uses.{lookup, defined, missing}
 use Rattle.units.specs.declared.cursor.Cursor.{Cursor}
-use Rattle.units.specs.declared.locate.Located.{Located}
-use Rattle.units.specs.declared.locate.Located.TheVariants.{At, Nowhere}
+use Rattle.units.specs.declared.locate.Site.{Site}
 
 -- What is gathered from the records from a place on.
 abbrev pub from : List ℕ → ℕ → Rest
@@ -82,14 +81,14 @@ pub record Ready (f us found table : List ℕ) : Type 0 where
   pub index : Indexed f table
 
 -- What the search for the step at a place answers.
-abbrev pub Locates : List ℕ → ℕ → Located → Type 0
-Locates f place (At own here) =
-    (n : ℕ) × (step_at one f place ≡ step (function_from f n own.at) (step_from f place)) × StandsAt f own × StandsAt f here × (here.at ≡ place) × IsStep f place
-Locates f place Nowhere = step_at one f place ≡ nowhere
+abbrev pub Locates : List ℕ → ℕ → Option Site → Type 0
+Locates f place (Some s) =
+    (n : ℕ) × (step_at one f place ≡ step (function_from f n s.own.at) (step_from f place)) × StandsAt f s.own × StandsAt f s.here × (s.here.at ≡ place) × IsStep f place
+Locates f place None = step_at one f place ≡ nowhere
 
-abbrev pub SoundBoth : List ℕ → Located → Type 0
-SoundBoth f (At own here) = Sound own × Sound here × (here.at + 4 ≤ length f)
-SoundBoth f Nowhere = Unit {0}
+abbrev pub SoundBoth : List ℕ → Option Site → Type 0
+SoundBoth f (Some s) = Sound s.own × Sound s.here × (s.here.at + 4 ≤ length f)
+SoundBoth f None = Unit {0}
 
 -- How many unit numbers a record brings, by its kind byte.
 abbrev pub brought_by : ℕ → ℕ

@@ -1,5 +1,5 @@
 -- Document 01, "What moves" (queries) and "Refusal numbers": each query at a place as one outcome, the answer and the lent words for every input.
-use Rattle.std.specs.Prelude.{◌≡◌, Bool, true, false, List, [], ◌++◌, ℕ, ltb, length, drop, Result, Ok, Err, Unit, tt}
+use Rattle.std.specs.Prelude.{◌≡◌, Bool, true, false, List, [], ◌++◌, ℕ, ltb, length, drop, Result, Ok, Err}
 use Rattle.fields.specs.Pick.{pick, ◌or◌}
 use Rattle.fields.specs.Edition.{Edition, one}
 use Rattle.records.specs.Check.{Answer, units, refusal, check}
@@ -45,7 +45,7 @@ storage_row_of false = storage_read_row
 -- A refusal other than 1 leaves the row as found and the needed words of the units 0.
 abbrev pub asked_by : Query → Edition → List ℕ → ℕ → List ℕ → List ℕ → List ℕ → Found → Asked
 asked_by q ed f place us before row (step fn s) =
-    record { answer = (Ok tt); units = laid ed.units us before; row = q ed (program ed f) us fn s ++ drop (length (q ed (program ed f) us fn s)) row }
+    record { answer = Ok tt; units = laid ed.units us before; row = q ed (program ed f) us fn s ++ drop (length (q ed (program ed f) us fn s)) row }
 asked_by q ed f place us before row nowhere = record { answer = Err (Absent place); units = laid ed.units [] before; row = row }
 
 abbrev pub asked_of : Query → Edition → List ℕ → ℕ → List ℕ → List ℕ → Answer → Asked
@@ -67,12 +67,8 @@ pub record Told : Type 0 where
   pub answer : Result Bool Refusal
   pub units : List ℕ
 
-abbrev pub yes_no : Bool → Result Bool Refusal
-yes_no true = (Ok true)
-yes_no false = (Ok false)
-
 abbrev pub told_by : Edition → ℕ → List ℕ → List ℕ → Found → Told
-told_by ed place us before (step fn s) = record { answer = yes_no (effect s); units = laid ed.units us before }
+told_by ed place us before (step fn s) = record { answer = Ok (effect s); units = laid ed.units us before }
 told_by ed place us before nowhere = record { answer = Err (Absent place); units = laid ed.units [] before }
 
 abbrev pub told_of : Edition → List ℕ → ℕ → List ℕ → Answer → Told

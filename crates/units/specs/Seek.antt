@@ -1,5 +1,5 @@
 -- What the queries do on the way to their answers: the contracts of the functions behind them. No public contract cites it.
-use Rattle.std.specs.Prelude.{◌≡◌, ◌⊎◌, true, List, [], ◌∷◌, ◌++◌, ℕ, zero, suc, ◌≤◌, length, get_or, drop, Result, Ok, Err, Unit, tt}
+use Rattle.std.specs.Prelude.{◌≡◌, ◌⊎◌, Some, true, List, [], ◌∷◌, ◌++◌, ℕ, zero, suc, ◌≤◌, length, get_or, drop, Result, Ok, Err}
 use Rattle.rows.specs.Row.{member}
 use Rattle.fields.specs.Pick.{pick, has}
 use Rattle.fields.specs.Edition.{one}
@@ -12,10 +12,7 @@ use Rattle.records.specs.declared.Refusal.TheVariants.{Absent}
 use Rattle.units.specs.Uses.{reads, writes, storage_of}
 use Rattle.units.specs.Rows.{unit_row}
 use Rattle.units.specs.Along.{Sane, Ready, Locates, SoundBoth}
-use Rattle.units.specs.declared.cursor.Cursor.{Cursor}
-use Rattle.units.specs.declared.locate.Located.TheVariants.{At}
-use Rattle.units.specs.declared.ask.Sought.{Sought}
-use Rattle.units.specs.declared.ask.Sought.TheVariants as sought
+use Rattle.units.specs.declared.locate.Site.{Site}
 
 -- The file is refused, or it is accepted and no step begins at the place.
 pub record Absence (f : List ℕ) (place : ℕ) (x : Refusal) : Type 0 where
@@ -28,18 +25,18 @@ abbrev pub Refuses : List ℕ → ℕ → Refusal → Type 0
 Refuses f place x = (check one f ≡ refusal x) ⊎ Absence f place x
 
 -- An accepted file has a step at the place; its unit words, its unit numbers and its table of functions are laid down.
-pub record Reached (f : List ℕ) (place : ℕ) (own here : Cursor) (words found table : List ℕ) : Type 0 where
+pub record Reached (f : List ℕ) (place : ℕ) (site : Site) (words found table : List ℕ) : Type 0 where
   pub us : List ℕ
   pub words_are : words ≡ laid 512 us []
   pub ready : Ready f us found table
   pub sane : Sane table
   pub short : length f ≤ 16384
-  pub sound : SoundBoth f (At own here)
-  pub located : Locates f place (At own here)
+  pub sound : SoundBoth f (Some site)
+  pub located : Locates f place (Some site)
 
-abbrev pub Seeks : List ℕ → ℕ → Sought → List ℕ → List ℕ → List ℕ → Type 0
-Seeks f place (sought.Here own here) words found table = Reached f place own here words found table
-Seeks f place (sought.Refused x) words found table = Refuses f place x × (words ≡ laid 512 [] [])
+abbrev pub Seeks : List ℕ → ℕ → Result Site Refusal → List ℕ → List ℕ → List ℕ → Type 0
+Seeks f place (Ok site) words found table = Reached f place site words found table
+Seeks f place (Err x) words found table = Refuses f place x × (words ≡ laid 512 [] [])
 
 -- The rows of the step at a place, with the unit words; or a refusal, and the words are 0.
 pub record Shown (f : List ℕ) (place : ℕ) (words reads' writes' : List ℕ) : Type 0 where

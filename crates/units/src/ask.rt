@@ -5,21 +5,12 @@ ghost use Rattle.fields.specs.Pick.{has};
 ghost use Rattle.records.specs.Program.{empty, step_of};
 ghost use Rattle.units.specs.Uses.{effect};
 ghost use Rattle.units.specs.Along.{step_from};
-ghost use Rattle.units.specs.Ask.{yes_no};
 ghost use Rattle.units.specs.Seek.{Seeks, Shows, given, storages_below};
 
 use crate::cursor::Cursor;
-use crate::locate::{Located, locate};
+use crate::locate::{Site, locate};
 use crate::uses::uses_at;
-use crate::{Answered, Effect};
-use records::{Checked, Refusal};
-
-// The step at a place: the cursor behind its function's record and its own; or a refusal.
-#[derive(Clone, Copy)]
-pub enum Sought {
-    Here { own: Cursor, here: Cursor },
-    Refused(Refusal),
-}
+use records::Refusal;
 
 // Checks the file and looks for the step. Where there is none, the unit words are cleared again.
 pub fn find_step(
@@ -32,15 +23,13 @@ pub fn find_step(
     requires { (length words.old ≡ 512) × (2341 ≤ length numbers.old) × (length table.old ≡ 512) }
     ensures { Seeks file.now place result words.new numbers.new table.new }
 {
-    match records::number_units(file, words, numbers, table) {
-        Ok(_) => match locate(file, place) {
-            Located::At { own, here } => Sought::Here { own, here },
-            None => {
-                records::clear(words);
-                Err(Refusal::Absent(place))
-            }
-        },
-        Err(r) => Err(r),
+    records::number_units(file, words, numbers, table)?;
+    match locate(file, place) {
+        Some(site) => Ok(site),
+        None => {
+            records::clear(words);
+            Err(Refusal::Absent(place))
+        }
     }
 }
 
@@ -57,13 +46,9 @@ pub fn rows_at(
 {
     let mut numbers = [0u16; 2341];
     let mut table = [0u16; 512];
-    match find_step(file, place, words, &mut numbers, &mut table) {
-        Sought::Here { own, here } => {
-            uses_at(file, &numbers, &table, own, here, reads, writes);
-            Ok(())
-        }
-        Err(r) => Err(r),
-    }
+    let site = find_step(file, place, words, &mut numbers, &mut table)?;
+    uses_at(file, &numbers, &table, site.own, site.here, reads, writes);
+    Ok(())
 }
 
 // Hands a found row over to the lent one, which a refusal leaves as it is.
@@ -121,13 +106,10 @@ fn effect_of(ends: bool, op: u8, sub: u8) -> bool
     27 <= op && op <= 29
 }
 
-// The effect of the step whose record stands at the front of a tail.
-pub fn effect_at(tail: &[u8]) -> Result<bool, Refusal>
+// May the step whose record stands at the front of a tail not be dropped?
+pub fn has_effect(tail: &[u8]) -> bool
     requires { 4 ≤ length tail.now }
-    ensures { result ≡ yes_no (effect (step_from tail.now 0)) }
+    ensures { result ≡ effect (step_from tail.now 0) }
 {
-    if effect_of(tail[0] == 7, tail[1], tail[2]) {
-        return Ok(true);
-    }
-    Ok(false)
+    effect_of(tail[0] == 7, tail[1], tail[2])
 }

@@ -9,24 +9,8 @@ pub mod uses;
 
 ghost use Rattle.units.specs.Ask.{read_row, write_row, storage_read_row, storage_write_row, row_of, storage_row_of, Asks, Tells};
 
-use ask::Sought;
 use fields::bytes::tail_of;
 use records::Refusal;
-
-// The answer of a set query: the row is filled, or a refusal.
-#[derive(Clone, Copy)]
-pub enum Answered {
-    Done,
-    Refused(Refusal),
-}
-
-// The answer on the observable effect.
-#[derive(Clone, Copy)]
-pub enum Effect {
-    Yes,
-    No,
-    Refused(Refusal),
-}
 
 // The units that the step at a place reads, or those that it writes.
 fn unit_row(
@@ -118,8 +102,6 @@ pub fn observable_effect(file: &[u8], place: usize, units: &mut [u32]) -> Result
     }
     let mut numbers = [0u16; 2341];
     let mut table = [0u16; 512];
-    match ask::find_step(file, place, &mut units[..512], &mut numbers, &mut table) {
-        Sought::Here { own: _, here } => ask::effect_at(tail_of(file, here.at)),
-        Err(r) => Err(r),
-    }
+    let site = ask::find_step(file, place, &mut units[..512], &mut numbers, &mut table)?;
+    Ok(ask::has_effect(tail_of(file, site.here.at)))
 }

@@ -8,11 +8,11 @@ ghost use Rattle.units.specs.Along.{Locates, SoundBoth};
 use crate::cursor::{Cursor, brings};
 use fields::bytes::length_of;
 
-// The cursor behind the function's record, and the one at the step; or no step begins there.
+// Where a step stands: the cursor behind its function's record, and the one at the step.
 #[derive(Clone, Copy)]
-pub enum Located {
-    At { own: Cursor, here: Cursor },
-    Nowhere,
+pub struct Site {
+    pub own: Cursor,
+    pub here: Cursor,
 }
 
 fn begins_step(kind: u8) -> bool
@@ -24,7 +24,7 @@ fn begins_step(kind: u8) -> bool
     kind == 7
 }
 
-// Walks the records from the front to the place asked.
+// Walks the records from the front to the place asked. None where no step begins there.
 pub fn locate(file: &[u8], place: usize) -> Option<Site>
     requires { length file.now ≤ 16384 }
     ensures { SoundBoth file.now result × ((us : List ℕ) → check one file.now ≡ units us → Locates file.now place result) }
@@ -43,10 +43,8 @@ pub fn locate(file: &[u8], place: usize) -> Option<Site>
         }
         if at == place {
             if begins_step(kind) {
-                return Located::At {
-                    own,
-                    here: Cursor { at, k },
-                };
+                let here = Cursor { at, k };
+                return Some(Site { own, here });
             }
             return None;
         }

@@ -11,7 +11,7 @@ allocate-requires c =
 
 pub returns-in-Ok : goal.returns-in-Ok
 returns-in-Ok c =
-    placed_done _ _ _ _ _ _ c.requires.5 _ _ _ c.allocate.ensures _ _ _ c.requires.4 c.in-Ok.is c.copy_bytes.ensures
+    placed_done _ _ _ _ _ _ c.requires.5 _ _ _ c.allocate.ensures _ _ c.requires.4 c.in-Ok.is c.copy_bytes.ensures
 
 pub returns-in-Err : goal.returns-in-Err
 returns-in-Err c =

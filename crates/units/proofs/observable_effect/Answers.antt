@@ -4,6 +4,7 @@ use borrow.Author.Rules.{rules}
 use mathlib.Core.List.{[]}
 use native.Mathlib.Omega.{arith}
 use lib.Seq.{length-take-le}
+use Rattle.std.proofs.lemmas.Result.{err_from_is_err_and}
 use Rattle.units.proofs.Asking.{tells_short, tells_here, tells_refused, reached, sought_refused}
 use Rattle.units.proofs.observable_effect.Goals as goal
 
@@ -17,19 +18,20 @@ pub find_step-requires : goal.find_step-requires
 find_step-requires c = (length-take-le 512 c.args.units.now (search rules), search rules, search rules)
 
 pub tail_of-requires : goal.tail_of-requires
-tail_of-requires c = omega (arith, (reached _ _ _ _ _ _ c.find_step.ensures _ _ c.in-Ok.is).sound.2)
+tail_of-requires c = omega (arith, (reached _ _ _ _ _ _ c.find_step.ensures _ c.in_ok-site.was).sound.2)
 
-pub effect_at-requires : goal.effect_at-requires
-effect_at-requires c =
-    let h = reached _ _ _ _ _ _ c.find_step.ensures _ _ c.in-Ok.is in
+pub has_effect-requires : goal.has_effect-requires
+has_effect-requires c =
+    let h = reached _ _ _ _ _ _ c.find_step.ensures _ c.in_ok-site.was in
     omega (arith, h.sound.2, c.tail_of.ensures.1)
 
-pub returns-in-Ok : goal.returns-in-Ok
-returns-in-Ok c =
-    let h = reached _ _ _ _ _ _ c.find_step.ensures _ _ c.in-Ok.is in
-    tells_here _ _ _ (search rules) _ _ _ _ _ _ _ h c.tail_of.ensures.0 c.effect_at.ensures
+pub returns : goal.returns
+returns c =
+    let h = reached _ _ _ _ _ _ c.find_step.ensures _ c.in_ok-site.was in
+    tells_here _ _ _ (search rules) _ _ _ _ _ _ h c.tail_of.ensures.0 c.has_effect.ensures
 
-pub returns-in-Err : goal.returns-in-Err
-returns-in-Err c =
-    let h = sought_refused _ _ _ _ _ _ c.find_step.ensures _ c.in-Err.is in
-    tells_refused _ _ _ (search rules) _ [] [] _ h.0 h.1
+pub returns-in_err-site : goal.returns-in_err-site
+returns-in_err-site c =
+    let p = err_from_is_err_and c.from_residual.result c.from_residual.ensures.1 in
+    let h = sought_refused _ _ _ _ _ _ c.find_step.ensures _ c.in_err-site.was in
+    rw (p.1, p.2) (tells_refused _ _ _ (search rules) _ [] [] _ h.0 h.1)

@@ -1,6 +1,6 @@
 -- The found bit is one of a byte below 256, so that its numbers fit two bytes each and stay what they are.
 -- Without one the work map is tried, as the definition says.
-use Rattle.std.specs.Prelude.{Option}
+use Rattle.std.specs.Prelude.{ℕ, Option}
 use mathlib.Core.Path.{sym, ap, subst, ◌∙◌}
 use native.Mathlib.Omega.{arith}
 use Rattle.storages.specs.declared.Placement.TheVariants.{ApplicationBit}

@@ -1,6 +1,6 @@
 -- Where application RAM is allowed, what is found there decides; else the work map is tried, as in the definition.
 -- A found bit lies below hi, so below 256.
-use Rattle.std.specs.Prelude.{Option}
+use Rattle.std.specs.Prelude.{ℕ, Option}
 use mathlib.Core.Path.{sym, ap, ◌∙◌}
 use native.Mathlib.Omega.{arith}
 use Rattle.fields.specs.Pick.{pick_yes, pick_no}

@@ -1,6 +1,6 @@
 -- Where application RAM is allowed, its first window decides; else Flash and the work map are tried, as in the definition.
 -- A found window begins before the map's end, so below 256.
-use Rattle.std.specs.Prelude.{Option}
+use Rattle.std.specs.Prelude.{ℕ, Option}
 use mathlib.Core.Path.{sym, ap, ◌∙◌}
 use native.Mathlib.Omega.{arith}
 use Rattle.fields.specs.Pick.{pick_yes, pick_no}

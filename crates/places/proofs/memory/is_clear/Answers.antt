@@ -28,9 +28,9 @@ pub clear_bit-requires-in-Work-space : goal.clear_bit-requires-in-Work-space
 clear_bit-requires-in-Work-space c = subst Small c.in-OneBit.is c.requires
 
 -- A room whose space is known is tested in that space's map.
-pub returns-in-None : goal.returns-in-None
+pub returns-in-Nowhere : goal.returns-in-Nowhere
 unfolding clear_room
-returns-in-None c = search rules
+returns-in-Nowhere c = search rules
 
 pub returns-in-App : goal.returns-in-App
 returns-in-App c =

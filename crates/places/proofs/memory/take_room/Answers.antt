@@ -56,11 +56,11 @@ take_bit-requires-in-Work-space c =
     c.requires
 
 -- A room whose space is known is taken in that space's map; the other map stays.
-pub returns-in-None : goal.returns-in-None
+pub returns-in-Nowhere : goal.returns-in-Nowhere
 unfolding reserve
-returns-in-None c =
+returns-in-Nowhere c =
     let a = c.args in
-    sym (ap (λ (r : Room). reserve r (record { app = a.app.now; wrk = a.work.now })) c.in-None.is)
+    sym (ap (λ (r : Room). reserve r (record { app = a.app.now; wrk = a.work.now })) c.in-Nowhere.is)
 
 pub returns-in-App : goal.returns-in-App
 returns-in-App c =

@@ -7,5 +7,5 @@ use Rattle.turns.proofs.turn.opens.Goals as goal
 pub returns-then-tries_slots : goal.returns-then-tries_slots
 returns-then-tries_slots c = sym (pick_yes _ _ _ (sym c.tries_slots.ensures ∙ c.if-tries_slots.true))
 
-pub returns : goal.returns
-returns c = sym (pick_no _ _ _ (sym c.tries_slots.ensures ∙ c.if-tries_slots.false))
+pub returns-else-tries_slots : goal.returns-else-tries_slots
+returns-else-tries_slots c = sym (pick_no _ _ _ (sym c.tries_slots.ensures ∙ c.if-tries_slots.false))
