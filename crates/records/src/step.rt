@@ -16,7 +16,7 @@ use crate::pending::{
 use crate::reader::{Reader, Stage, with_now};
 use fields::bytes::u16_at;
 use fields::ranges::{abi_fits, header_fits, instruction_fits, storage_fits, terminator_fits};
-use fields::table::{end_entry_of, entry_of, least_targets, most_targets};
+use fields::table::{end_entry_of, entry_of, targets_of};
 
 fn take_header(c: Reader, tail: &[u8], at: usize) -> Result<Reader, Refusal>
     requires { 7 ≤ length tail.now }
@@ -106,12 +106,8 @@ fn take_terminator(c: Reader, tail: &[u8], at: usize) -> Result<Reader, Refusal>
     if c.stage != Stage::InBlock || !terminator_fits(op, sub, tail[3]) {
         return Err(Refusal::Form(at));
     }
-    let now = open_at(
-        at,
-        end_entry_of(op, sub),
-        least_targets(op),
-        most_targets(op),
-    );
+    let (least, most) = targets_of(op);
+    let now = open_at(at, end_entry_of(op, sub), least, most);
     Ok(with_now(c, Stage::AfterBlock, now))
 }
 

@@ -1,5 +1,5 @@
 // The whole file, record by record from the front.
-ghost use Rattle.std.specs.Prelude.{◌≡◌, true, false, ◌⊎◌, ◌≤◌, ◌<◌, [], length};
+ghost use Rattle.std.specs.Prelude.{◌≡◌, ◌≤◌, [], length};
 ghost use Rattle.fields.specs.Edition.{one};
 ghost use Rattle.records.specs.Check.{check, numbers as numbers_in};
 ghost use Rattle.records.specs.Index.{bare, tabled};
@@ -9,14 +9,7 @@ ghost use Rattle.records.specs.Mirror.{Walked};
 use crate::Refusal;
 use crate::notes::Notes;
 use crate::reader::{Stage, start_reading};
-use fields::bytes::{length_of, tail_of};
-
-// Is the record at the front of a tail not whole, or of no kind? `len` is how long its kind is.
-fn is_cut(tail: &[u8], len: usize) -> bool
-    ensures { (result ≡ true → (len ≡ 0) ⊎ (length tail.now < len)) × (result ≡ false → (len ≡ 0 → ⊥) × (len ≤ length tail.now)) }
-{
-    len == 0 || tail.len() < len
-}
+use fields::bytes::{tail_of, whole_record};
 
 // What the file comes to once all of it is read.
 pub fn walk(
@@ -41,12 +34,10 @@ pub fn walk(
     let mut at = 0;
     while at < file.len() {
         let tail = tail_of(file, at);
-        let kind = tail[0];
-        let len = length_of(kind);
-        if is_cut(tail, len) {
+        let Some(len) = whole_record(tail) else {
             return Err(Refusal::Form(at));
-        }
-        c = notes.step_on(c, kind, tail, at)?;
+        };
+        c = notes.step_on(c, tail[0], tail, at)?;
         at += len;
     }
     if c.stage == Stage::AtEnd {

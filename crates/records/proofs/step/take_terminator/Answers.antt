@@ -29,7 +29,7 @@ returns c =
     comes_admit s _ (terminator_at c.args.tail.now) _ _ (stage_test _ s e in_block _ _ (omega arith) c.ne.ensures c.if-ne.false)
     (sym c.terminator_fits.ensures ∙ c.if-not-terminator_fits.false) (
       ap Ok (c.with_now.ensures.2 s after_block (opened _ (end_fields_of _ _) (least_targets _) (most_targets _)) e refl
-          (opened_as _ (end_fields_of _ _) _ _ _ _ _ c.least_targets.ensures c.most_targets.ensures
+          (opened_as _ (end_fields_of _ _) _ _ _ _ _ c.targets_of-least.ensures.least c.targets_of-least.ensures.most
           (c.open_at-now.ensures (end_fields_of _ _) c.end_entry_of.ensures (end_fields_short _ _)))),
       holds_opened s d h _ _,
     )
