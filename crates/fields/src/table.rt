@@ -96,31 +96,6 @@ pub fn targets_of(op: u8) -> (u16, u16)
     }
 }
 
-// How many targets a terminator takes at least, and at most.
-#[tactic(auto, unfolding(crate::specs::Fields::least_targets))]
-pub fn least_targets(op: u8) -> u16
-    ensures { result ≡ least_targets op }
-{
-    match op {
-        0 => 1,
-        1 => 2,
-        2 => 1,
-        _ => 0,
-    }
-}
-
-#[tactic(auto, unfolding(crate::specs::Fields::most_targets))]
-pub fn most_targets(op: u8) -> u16
-    ensures { result ≡ most_targets op }
-{
-    match op {
-        0 => 1,
-        1 => 2,
-        2 => 256,
-        _ => 0,
-    }
-}
-
 // The field of a number, 0 past the row.
 #[tactic(auto, using(crate::proofs::TableLaws::byte_shifted, crate::proofs::TableLaws::byte_past))]
 pub fn field_in(row: u64, field: u8) -> u8

@@ -1,5 +1,6 @@
 -- Laws of the units' chains. A chain passes every unit of its bucket, last one first, so a walk down it that has not met a word has it nowhere
 -- above, and at the chain's end nowhere (`seek_none`). One unit more goes to the front of its bucket's chain and leaves the others (`chained_more`).
+use Rattle.std.specs.Prelude.{Some, None}
 use mathlib.Core.Path.{◌≡◌, refl, sym, ap, ◌∙◌}
 use mathlib.Core.Bool.{Bool, true, false, true≢false}
 use mathlib.Core.Logic.{⊎_elim}
@@ -177,18 +178,18 @@ seek_on words heads nexts word next s some other =
     }
 
 pub seek_found : (words heads nexts : List ℕ) (word next : ℕ) → Seeking words heads nexts word next → (next ≡ 0 → ⊥) → get_or words (next - 1) 0 ≡ word
-    → (us : List ℕ) → length us ≤ 512 → words ≡ laid 512 us [] → Chained us heads nexts → next - 1 ≡ pick (has word us) (number_in word us) 512
+    → (us : List ℕ) → length us ≤ 512 → words ≡ laid 512 us [] → Chained us heads nexts → Some (next - 1) ≡ pick (has word us) (Some (number_in word us)) None
 seek_found words heads nexts word next s some q us _ e c =
     let h = seek_here words heads nexts us word next s some e c in
     let l : next - 1 < length us = h.0.within in
     let w : get_or us (next - 1) 0 ≡ word = sym h.1 ∙ q in
     let t : has word us ≡ true = rw w at (at_has us (next - 1) l) in
-    c.once (next - 1) (number_in word us) l (number_low word us t) (w ∙ sym (number_at word us t)) ∙ sym (pick_yes _ _ _ t)
+    ap Some (c.once (next - 1) (number_in word us) l (number_low word us t) (w ∙ sym (number_at word us t))) ∙ sym (pick_yes _ _ _ t)
 
 pub seek_none : (words heads nexts : List ℕ) (word next : ℕ) → Seeking words heads nexts word next → next ≡ 0
-    → (us : List ℕ) → length us ≤ 512 → words ≡ laid 512 us [] → Chained us heads nexts → 512 ≡ pick (has word us) (number_in word us) 512
+    → (us : List ℕ) → length us ≤ 512 → words ≡ laid 512 us [] → Chained us heads nexts → None ≡ pick (has word us) (Some (number_in word us)) None
 seek_none words heads nexts word next s z us _ e c = go (has word us) refl
   where
-    go : (t : Bool) → has word us ≡ t → 512 ≡ pick (has word us) (number_in word us) 512
+    go : (t : Bool) → has word us ≡ t → None ≡ pick (has word us) (Some (number_in word us)) None
     go true h = absurd ((s.past us e c).none (number_in word us) (omega arith) (number_low word us h) (number_at word us h))
     go false h = sym (pick_no _ _ _ h)

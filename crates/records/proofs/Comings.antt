@@ -19,6 +19,7 @@ use Rattle.records.specs.Mirror.{reader_of, Holds, Enters, Comes}
 use Rattle.records.specs.declared.Refusal.{Refusal}
 use Rattle.records.specs.declared.Refusal.TheVariants.{Form, Repeated, Undeclared, Limit}
 use Rattle.records.specs.declared.reader.Reader.{Reader}
+use Rattle.records.specs.declared.notes.Notes.{Notes}
 use Rattle.records.proofs.Took.{given_to}
 use Rattle.records.proofs.Lists.{number_snoc}
 
@@ -139,15 +140,15 @@ module _ (s : State) (at word : ℕ) (P : State → Type 0) where
 
 -- A record by its kind, and the tests before it ---------------------------------------------------------------------------------------------------
 
-module _ (s : State) (at k : ℕ) (x y : Rec) (r : Result Reader Refusal) (before is fs bs ws hs ns ks : List ℕ) (e : x ≡ y) where
-  pub taken_as : Comes (taken one s at y) r (λ s'. Enters s' y at k before is fs bs ws hs ns ks) → Comes (taken one s at x) r (λ s'. Enters s' x at k before is fs bs ws hs ns ks)
+module _ (s : State) (at k : ℕ) (x y : Rec) (r : Result Reader Refusal) (before : List ℕ) (d : Notes) (e : x ≡ y) where
+  pub taken_as : Comes (taken one s at y) r (λ s'. Enters s' y at k before d) → Comes (taken one s at x) r (λ s'. Enters s' x at k before d)
   taken_as h = rw e h
 
   -- a record that is no function's leaves the table
-  pub taken_other : fs ≡ entered y at k before → Comes (taken one s at y) r (λ s'. Holds s' is fs bs ws hs ns ks) → Comes (taken one s at x) r (λ s'. Enters s' x at k before is fs bs ws hs ns ks)
+  pub taken_other : d.table.now ≡ entered y at k before → Comes (taken one s at y) r (λ s'. Holds s' d) → Comes (taken one s at x) r (λ s'. Enters s' x at k before d)
   taken_other same h = taken_as (go (taken one s at y) h)
     where
-      go : (t : Turn) → Comes t r (λ s'. Holds s' is fs bs ws hs ns ks) → Comes t r (λ s'. Enters s' y at k before is fs bs ws hs ns ks)
+      go : (t : Turn) → Comes t r (λ s'. Holds s' d) → Comes t r (λ s'. Enters s' y at k before d)
       go (next s') m = (m.0, record { holds = m.1; table_is = same })
       go (refused z) m = m
 

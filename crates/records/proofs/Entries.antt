@@ -3,12 +3,12 @@
 use mathlib.Core.Path.{◌≡◌, refl, sym, ap, ◌∙◌}
 use mathlib.Core.Bool.{Bool, true, false}
 use mathlib.Core.List.{List, [], ◌++◌}
-use Prim.Native.Nat.{ℕ, ◌+◌, ◌-◌, ◌<◌}
+use Prim.Native.Nat.{ℕ, ◌+◌, ◌<◌}
 use native.Mathlib.Omega.{arith}
-use lib.Dec.{ltb, eqb}
+use lib.Dec.{eqb}
 use lib.ListN.{length, get_or, take, drop, set, replicate, length-set, length-append, length-replicate, get_or-replicate, get_or-append}
-use lib.Seq.{ext_get_or, get_or-append-add, get_or-set_same, get_or-set_other, length-take-le}
-use borrow.Author.Tests.{ltb-true, ltb-false, eqb-true, eqb-false, eq-eqb, ne_eqb}
+use lib.Seq.{get_or-append-add, get_or-set_same, get_or-set_other, length-take-le}
+use borrow.Author.Tests.{eqb-true, eqb-false, eq-eqb, ne_eqb}
 use Rattle.fields.specs.Pick.{pick, pick_yes, pick_no, ◌or◌}
 use Rattle.fields.specs.Edition.{Edition}
 use Rattle.fields.specs.Record.{Rec, function, whole, record_at, read}
@@ -35,21 +35,16 @@ bare_blank n l =
       ap (λ (m : ℕ). get_or (replicate 256 65535 ++ replicate 256 0) (m + n) 0) (sym e) ∙ get_or-append-add (replicate 256 65535) (replicate 256 0) n 0 ∙ get_or-replicate 256 n 0 0 l,
     )
 
--- a table that is blank at every number
-pub bare_is : (table : List ℕ) → length table ≡ 512 → ((n : ℕ) → n < 256 → Blank table n) → table ≡ bare
-bare_is table many h = ext_get_or 0 table bare (many ∙ sym bare_many) (λ i l. go i (omega arith) (ltb i 256) refl)
-  where
-    go : (i : ℕ) → i < 512 → (b : Bool) → ltb i 256 ≡ b → get_or table i 0 ≡ get_or bare i 0
-    go i l true q = let low = ltb-true i 256 q in (h i low).0 ∙ sym (bare_blank i low).0
-    go i l false q =
-        let high = ltb-false i 256 q in
-        let n : 256 + (i - 256) ≡ i = omega arith in
-        let low : i - 256 < 256 = omega arith in
-        ap (λ (m : ℕ). get_or table m 0) (sym n) ∙ (h (i - 256) low).1 ∙ sym (bare_blank (i - 256) low).1 ∙ ap (λ (m : ℕ). get_or bare m 0) n
+pub listed_at : (table : List ℕ) (n : ℕ) → (get_or table n 0 ≡ 65535 → ⊥) → listed table n ≡ true
+unfolding listed
+listed_at table n h = pick_no _ _ _ (ne_eqb (get_or table n 0) 65535 h)
+
+pub unlisted_at : (table : List ℕ) (n : ℕ) → get_or table n 0 ≡ 65535 → listed table n ≡ false
+unfolding listed
+unlisted_at table n h = pick_yes _ _ _ (eq-eqb (get_or table n 0) 65535 h)
 
 pub bare_listed : (n : ℕ) → n < 256 → listed bare n ≡ false
-unfolding listed
-bare_listed n l = pick_yes _ _ _ (eq-eqb (get_or bare n 0) 65535 (bare_blank n l).0)
+bare_listed n l = unlisted_at bare n (bare_blank n l).0
 
 -- One function more ---------------------------------------------------------------------------------------------------------------------------------
 
@@ -82,18 +77,6 @@ module _ (table : List ℕ) (i at k : ℕ) (many : length table ≡ 512) (low : 
           (pick_no _ _ _ (ne_eqb (get_or with_entry i 0) 65535 (λ e. omega (arith, entry_at))) ∙ or_last (listed table i) true refl)
       go false q =
           ap (λ (x : ℕ). pick (eqb x 65535) false true) (entry_other n l (eqb-false n i q)).0 ∙ or_first (listed table n) false refl
-
--- each turn blanks one number more
-pub blank_on : (table : List ℕ) (i : ℕ) → length table ≡ 512 → i < 256 → ((n : ℕ) → n < i → Blank table n) → (n : ℕ) → n < i + 1 → Blank (set (set table i 65535) (256 + i) 0) n
-blank_on table i many low h n l = go (eqb n i) refl
-  where
-    go : (b : Bool) → eqb n i ≡ b → Blank (set (set table i 65535) (256 + i) 0) n
-    go true q = rw (eqb-true n i q) (entry_at table i 65535 0 many low, entry_count table i 65535 0 many low)
-    go false q =
-        let d = eqb-false n i q in
-        let o = entry_other table i 65535 0 many low n (omega arith) d in
-        let b = h n (omega arith) in
-        (o.0 ∙ b.0, o.1 ∙ b.1)
 
 -- Record by record ----------------------------------------------------------------------------------------------------------------------------------
 

@@ -1,5 +1,6 @@
 -- Laws of the reader's lists, for code that keeps them as bit rows and arrays: one member more, and the number of a unit. Each holds by the list's
 -- elements from the front: a member stands in one of them, and a unit's number is the place of the first that is its word.
+use Rattle.std.specs.Prelude.{Option, Some, None}
 use mathlib.Core.Path.{◌≡◌, refl, sym, ap, ◌∙◌}
 use mathlib.Core.Bool.{Bool, true, false, true≢false, or_comm}
 use mathlib.Core.Logic.{◌⊎◌, inl, inr}
@@ -15,7 +16,7 @@ use Rattle.fields.specs.Pick.{pick, pick_yes, pick_no, ◌or◌, has}
 use Rattle.records.specs.Units.{number_in}
 use Rattle.fields.proofs.Front.{or_cases, or_is}
 use Rattle.records.proofs.Range.{Distinct}
-use Rattle.records.proofs.Numbers.{has_snoc, number_low, at_has}
+use Rattle.records.proofs.Numbers.{has_snoc, at_has}
 use Rattle.rows.specs.Row.{member_at, with_at, pack}
 use Rattle.rows.proofs.Pack.{member_at_pack, pack_with_at, pack_ext}
 
@@ -102,23 +103,23 @@ front_answer l xs n id m r b held p q k j =
     ap (λ (i : ℕ). has i xs) (sym q) ∙ ap (has id) (sym held) ∙ ap (λ (i : ℕ). has id (take i l)) (sym p) ∙ sym k ∙ j
 
 -- what a look among the units says
-module _ (us : List ℕ) (word found : ℕ) (e : found ≡ pick (has word us) (number_in word us) 512) (most : length us ≤ 512) where
-  pub found_known : found < 512 → has word us ≡ true
-  found_known l = go (has word us) refl
+module _ (us : List ℕ) (word : ℕ) (found : Option ℕ) (e : found ≡ pick (has word us) (Some (number_in word us)) None) where
+  pub found_known : (n : ℕ) → found ≡ Some n → has word us ≡ true
+  found_known n l = go (has word us) refl
     where
       go : (t : Bool) → has word us ≡ t → t ≡ true
       go true q = refl
-      go false q = absurd (omega (arith, e ∙ pick_no _ _ _ q))
+      go false q = let none : Some n ≡ None = sym l ∙ e ∙ pick_no _ _ _ q in cc none
 
-  pub found_number : found < 512 → found ≡ number_in word us
-  found_number l = e ∙ pick_yes _ _ _ (found_known l)
+  pub found_number : (n : ℕ) → found ≡ Some n → n ≡ number_in word us
+  found_number n l = let some : Some n ≡ Some (number_in word us) = sym l ∙ e ∙ pick_yes _ _ _ (found_known n l) in cc some
 
-  pub found_none : 512 ≤ found → has word us ≡ false
+  pub found_none : found ≡ None → has word us ≡ false
   found_none l = go (has word us) refl
     where
       go : (t : Bool) → has word us ≡ t → t ≡ false
       go false q = refl
-      go true q = absurd (omega (arith, e ∙ pick_yes _ _ _ q, number_low word us q))
+      go true q = let none : Some (number_in word us) ≡ None = sym (pick_yes _ _ _ q) ∙ sym e ∙ l in cc none
 
 pub units_more : (us : List ℕ) (word n : ℕ) → n ≡ length us → length (us ++ (word ∷ [])) ≡ n + 1
 units_more us word n e = length-append us (word ∷ []) ∙ ap (λ (k : ℕ). k + 1) (sym e)

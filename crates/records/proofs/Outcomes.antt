@@ -3,11 +3,10 @@ use Rattle.std.specs.Prelude.{Result, Ok, Err}
 use mathlib.Core.Path.{◌≡◌, refl, sym, ap, ◌∙◌}
 use mathlib.Core.Bool.{Bool, true, false}
 use mathlib.Core.List.{List, [], ◌++◌, append-nil, append_assoc}
-use Prim.Native.Nat.{ℕ, ◌+◌, ◌-◌, ◌≤◌, ◌<◌}
+use Prim.Native.Nat.{ℕ, ◌-◌, ◌≤◌, ◌<◌}
 use native.Mathlib.Omega.{arith}
 use lib.Dec.{ltb}
-use borrow.Author.Fill.{fill_more}
-use lib.ListN.{set, drop_of_length-le, length, drop, replicate, length-append, length-drop, length-replicate}
+use lib.ListN.{drop_of_length-le, length, drop, replicate, length-append, length-drop, length-replicate}
 use borrow.Author.Tests.{ltb-false, le-ltb, lt-ltb}
 use Rattle.fields.specs.Pick.{pick, pick_yes, pick_no}
 use Rattle.fields.specs.Edition.{Edition, one}
@@ -23,15 +22,6 @@ pub laid_length : (n : ℕ) (us before : List ℕ) → length us ≤ n → n ≤
 unfolding laid
 laid_length n us before a b =
     omega (arith, length-append (us ++ replicate (n - length us) 0) (drop n before), length-append us (replicate (n - length us) 0), length-replicate {A = ℕ} (n - length us) 0, length-drop n before)
-
--- the loop that clears: so many words are 0, the rest as they were
-pub zero_more : (u u0 : List ℕ) (i : ℕ) → u ≡ replicate i 0 ++ drop i u0 → length u ≡ length u0 → i < length u → set u i 0 ≡ replicate (i + 1) 0 ++ drop (i + 1) u0
-zero_more u u0 i e h l = rw e (fill_more i 0 u0 (omega arith))
-
-pub zero_all : (u u0 : List ℕ) (i : ℕ) → u ≡ replicate i 0 ++ drop i u0 → length u ≤ i → i ≤ length u0 → length u ≡ length u0 → u ≡ replicate (length u0) 0
-zero_all u u0 i e h l m =
-    let k : i ≡ length u0 = omega arith in
-    e ∙ (ap (λ j. replicate j 0 ++ drop j u0) k ∙ (ap (λ v. replicate (length u0) 0 ++ v) (drop_of_length-le u0 {i = length u0} (omega arith)) ∙ append-nil (replicate (length u0) 0)))
 
 -- What check comes to, way by way ---------------------------------------------------------------------------------------------------------------
 

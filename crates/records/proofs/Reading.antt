@@ -10,10 +10,10 @@ use native.Mathlib.Omega.{arith}
 use native.Mathlib.Nat.{le_trans, lt_of_not-le}
 use native.Mathlib.Decide.{dec_le}
 use lib.Dec.{ltb, leb, eqb}
-use lib.ListN.{length, get_or, drop, replicate, length-append, length-drop, length-replicate, drop_of_length-le}
+use lib.ListN.{length, get_or, take, drop, replicate, length-append, length-drop, length-replicate, drop_of_length-le}
 use lib.Seq.{drop-drop}
 use borrow.Author.Tests.{ltb-true, eqb-true, eq-eqb, ne_eqb, le-ltb, lt-leb}
-use Rattle.rows.proofs.Pack.{length_pack, pack_none}
+use Rattle.rows.proofs.Pack.{pack_none}
 use Rattle.fields.specs.Pick.{pick, pick_yes, pick_no, ◌and◌, has, times}
 use Rattle.fields.specs.Edition.{one}
 use Rattle.fields.specs.Fields.{Field, Count, lacks, missing, most, field_at}
@@ -22,10 +22,12 @@ use Rattle.records.specs.Step.{State, start, Turn, next, refused, with_header, w
 use Rattle.records.specs.Check.{scan, closed, check, pieces, numbers as numbers_in}
 use Rattle.records.specs.Index.{bare, brought, entered, tabled_in, tabled}
 use Rattle.records.specs.Outcome.{laid}
-use Rattle.records.specs.Mirror.{Rising, seen, reader_of, Kept, Holds, Enters, Sane, Comes, Walked}
+use Rattle.records.specs.Mirror.{Rising, seen, stage_of, reader_of, Kept, Holds, Enters, Sane, Comes, Walked}
 use Rattle.records.specs.declared.Refusal.{Refusal}
 use Rattle.records.specs.declared.Refusal.TheVariants.{Form}
+use Rattle.records.specs.declared.reader.Stage.TheVariants.{AtEnd}
 use Rattle.records.specs.declared.reader.Reader.{Reader}
+use Rattle.records.specs.declared.notes.Notes.{Notes}
 use Rattle.fields.proofs.ByKind.{length_none}
 use Rattle.fields.proofs.Front.{and_both, read_whole, whole_read}
 use Rattle.records.proofs.Took.{Named, Took, stepped, unnamed, given_to}
@@ -35,7 +37,7 @@ use Rattle.records.proofs.Range.{Sound, start_sound, kept as in_range}
 use Rattle.records.proofs.Going.{Going, going_start, going_done, going_fault, going_refused, going_on}
 use Rattle.records.proofs.Chains.{chained_none}
 use Rattle.records.proofs.Entries.{bare_many, bare_listed, tabled_nil, tabled_whole}
-use Rattle.records.proofs.Held.{named_of}
+use Rattle.records.proofs.Held.{named_of, stage_ended}
 
 -- What is open stays within its bounds -----------------------------------------------------------------------------------------------------------
 
@@ -82,6 +84,25 @@ kept_on s at (operand x) s' h k = go h.2
 kept_on s at (terminator op sub fn) s' h k = newly s' (rw h.2) (rw h.2 (end_fields_short op sub))
 kept_on s at (target id) s' h k = rw h.1 (record { rising = k.rising; seen_most = k.seen_most; short = k.short })
 kept_on s at end s' h k = newly s' (rw h.1) (rw h.1 (omega arith))
+
+-- No stage is past the end -----------------------------------------------------------------------------------------------------------------------
+
+stage_on : (s : State) (at : ℕ) (x : Rec) (s' : State) → Took one s at x s' → s.stage ≤ 5 → s'.stage ≤ 5
+unfolding with_header with_storage with_function with_block with_opened with_number with_unit
+stage_on s at (header a f w) s' h l = rw h.2 (omega arith)
+stage_on s at (storage x) s' h l = rw h.3 l
+stage_on s at (function n) s' h l = rw h.3 (omega arith)
+stage_on s at (abi x) s' h l = rw h.2.is l
+stage_on s at (block id) s' h l = rw h.3 (omega arith)
+stage_on s at (instruction op sub fn) s' h l = rw h.2 (omega arith)
+stage_on s at (operand x) s' h l = go h.2
+  where
+    go : ((eqb x.shape 0 ≡ true) × (s' ≡ unnamed (given_to x s))) ⊎ Named one x.shape x.storage x.offset (given_to x s) s' → s'.stage ≤ 5
+    go (inl m) = rw m.1 l
+    go (inr m) = rw m.is l
+stage_on s at (terminator op sub fn) s' h l = rw h.2 (omega arith)
+stage_on s at (target id) s' h l = rw h.1 l
+stage_on s at end s' h l = rw h.1 (omega arith)
 
 -- Unit numbers are noted for ABI records and operands, seven bytes each ---------------------------------------------------------------------------
 
@@ -176,28 +197,28 @@ kind_low k n e z = go (dec_le 10 k)
 
 -- What the loop keeps -----------------------------------------------------------------------------------------------------------------------------
 
-pub record Reading (f : List ℕ) (c : Reader) (at : ℕ) (ids table blocks words heads nexts numbers : List ℕ) : Type 0 where
+pub record Reading (f : List ℕ) (c : Reader) (at : ℕ) (d : Notes) : Type 0 where
   pub state : State
   pub is : c ≡ reader_of state
   pub going : Going one (scan one start 0 f) f state at
-  pub holds : Holds state ids table blocks words heads nexts numbers
+  pub holds : Holds state d
   pub kept : Kept state
   pub sound : Sound one state
+  pub staged : state.stage ≤ 5
   pub counted : 7 * length state.numbers ≤ at
-  pub tabling : tabled one f ≡ tabled_in one at (length state.numbers) (pieces one (drop at f)) table
+  pub tabling : tabled one f ≡ tabled_in one at (length state.numbers) (pieces one (drop at f)) d.table.now
 
-pub reading_start : (f : List ℕ) (c : Reader) (table blocks words numbers : List ℕ) → c ≡ reader_of start → length blocks ≡ 128 → words ≡ laid 512 [] []
-    → table ≡ bare
-    → Reading f c 0 (replicate 4 0) table blocks words (replicate 256 0) (replicate 512 0) numbers
+pub reading_start : (f : List ℕ) (c : Reader) (d : Notes) → c ≡ reader_of start → d.ids ≡ replicate 4 0 → length d.blocks ≡ 128 → d.words.now ≡ laid 512 [] []
+    → d.heads ≡ replicate 256 0 → d.nexts ≡ replicate 512 0 → d.table.now ≡ bare → Reading f c 0 d
 unfolding has tabled
-reading_start f c table blocks words numbers e l w b =
+reading_start f c d e i l w p q b =
     record {
       state = start;
       is = e;
       going = going_start one f;
       holds =
           record {
-            id_row = sym (pack_none 4);
+            id_row = i ∙ sym (pack_none 4);
             id_low = λ n h. absurd (false≢true h);
             many_entries = rw b bare_many;
             function_list = λ n h. rw b (bare_listed n h);
@@ -205,11 +226,12 @@ reading_start f c table blocks words numbers e l w b =
             block_list = refl;
             units_most = omega arith;
             unit_words = w;
-            chains = chained_none;
+            chains = rw (p, q) chained_none;
             number_list = refl;
           };
       kept = newly start refl (omega arith);
       sound = start_sound one;
+      staged = omega arith;
       counted = omega arith;
       tabling = rw b;
     }
@@ -236,45 +258,49 @@ unfolding missing
 missing_most [] k given = omega arith
 missing_most (x ∷ xs) k given = omega (arith, lacks_low x.count (times k given), missing_most xs (suc k) given)
 
-module _ (f : List ℕ) (c : Reader) (at : ℕ) (ids table blocks words heads nexts numbers : List ℕ) (g : Reading f c at ids table blocks words heads nexts numbers) where
-  pub reading_sane : length f ≤ 16384 → 2341 ≤ length numbers → Sane c at ids table blocks words heads nexts numbers
+module _ (f : List ℕ) (c : Reader) (at : ℕ) (d : Notes) (g : Reading f c at d) where
+  pub reading_sane : length f ≤ 16384 → 2341 ≤ length d.numbers.now → Sane c at d
   reading_sane l m =
       record {
         early = omega (arith, g.going.within);
-        many_ids = rw g.holds.id_row (length_pack 4 _);
         many_entries = g.holds.many_entries;
-        many_blocks = g.holds.many_blocks;
-        many_words = rw g.holds.unit_words (laid_full g.state.units g.holds.units_most);
-        low = g.holds.chains.low;
         blocks_most = rw g.is g.sound.blocks_most;
-        units_most = rw g.is g.holds.units_most;
         seen_most = rw g.is g.kept.seen_most;
         lacks_most = rw g.is (le_trans (missing_most g.state.now.row 0 g.state.now.given) g.kept.short);
-        room = rw g.is (omega (arith, g.counted, g.going.within));
         named_most = rw g.is (omega (arith, g.counted, g.going.within));
+        ready =
+            record {
+              many_words = rw g.holds.unit_words (laid_full g.state.units g.holds.units_most);
+              low = g.holds.chains.low;
+              units_most = rw g.is g.holds.units_most;
+              room = rw g.is (omega (arith, g.counted, g.going.within));
+            };
       }
 
-  -- The ways out of the loop.
-  module _ (short : length f ≤ 16384) where
+  -- The ways out of the loop; only at the end does it matter what the lent words then are.
+  module _ (short : length f ≤ 16384) (words found table : List ℕ) where
     answer_is : (w : Turn) → scan one start 0 f ≡ w → check one f ≡ closed (length f) w
     unfolding check
     answer_is w e = pick_no _ _ _ (le-ltb 16384 (length f) short) ∙ ap (closed (length f)) e
 
-    pub reading_done : (at < length f → ⊥) → c.stage ≡ 5 → Walked (check one f) (Ok c.units) words numbers (numbers_in one f) table (tabled one f)
+    pub reading_done : (at < length f → ⊥) → c.stage ≡ AtEnd → words ≡ d.words.now → found ≡ d.numbers.now → table ≡ d.table.now
+        → Walked (check one f) (Ok c.units) words found (numbers_in one f) table (tabled one f)
     unfolding numbers_in
-    reading_done m e = rw (answer_is (next g.state) all, all, pick_yes (eqb g.state.stage at_end) _ _ (eq-eqb _ _ (ends ∙ e)), g.is) (refl, g.holds.unit_words, g.holds.number_list, sym entries)
+    reading_done m e u v w =
+        rw (answer_is (next g.state) all, all, pick_yes (eqb g.state.stage at_end) _ _ (eq-eqb _ _ (stage_ended _ g.staged (ends ∙ e))), g.is)
+        (refl, u ∙ g.holds.unit_words, ap (take (length g.state.numbers)) v ∙ g.holds.number_list, w ∙ sym entries)
       where
         all : scan one start 0 f ≡ next g.state
         all = going_done one _ f g.state at g.going (omega (arith, g.going.within))
 
-        entries : tabled one f ≡ table
-        entries = g.tabling ∙ ap (λ (t : List ℕ). tabled_in one at (length g.state.numbers) (pieces one t) table) (drop_of_length-le f {i = at} (omega (arith, g.going.within))) ∙ tabled_nil one at _ table
+        entries : tabled one f ≡ d.table.now
+        entries = g.tabling ∙ ap (λ (t : List ℕ). tabled_in one at (length g.state.numbers) (pieces one t) d.table.now) (drop_of_length-le f {i = at} (omega (arith, g.going.within))) ∙ tabled_nil one at _ d.table.now
 
-        ends : g.state.stage ≡ c.stage
+        ends : stage_of g.state.stage ≡ c.stage
         ends = sym (ap (λ (r : Reader). r.stage) g.is)
 
-    pub reading_open : (at < length f → ⊥) → (c.stage ≡ 5 → ⊥) → Walked (check one f) (Err (Form at)) words numbers (numbers_in one f) table (tabled one f)
-    reading_open m e = rw (answer_is (next g.state) all, pick_no (eqb g.state.stage at_end) _ _ (ne_eqb _ _ (λ q. e (ends ∙ q)))) (ap (λ i. Err (Form i)) end_at)
+    pub reading_open : (at < length f → ⊥) → (c.stage ≡ AtEnd → ⊥) → Walked (check one f) (Err (Form at)) words found (numbers_in one f) table (tabled one f)
+    reading_open m e = rw (answer_is (next g.state) all, pick_no (eqb g.state.stage at_end) _ _ (ne_eqb _ _ (λ q. e (ends ∙ ap stage_of q)))) (ap (λ i. Err (Form i)) end_at)
       where
         end_at : at ≡ length f
         end_at = omega (arith, g.going.within)
@@ -282,28 +308,28 @@ module _ (f : List ℕ) (c : Reader) (at : ℕ) (ids table blocks words heads ne
         all : scan one start 0 f ≡ next g.state
         all = going_done one _ f g.state at g.going end_at
 
-        ends : c.stage ≡ g.state.stage
+        ends : c.stage ≡ stage_of g.state.stage
         ends = ap (λ (r : Reader). r.stage) g.is
 
     -- `t` is the tail that the code holds
     module _ (t : List ℕ) (here : t ≡ drop at f) (some : at < length f) where
-      pub reading_fault : read one t ≡ fault → Walked (check one f) (Err (Form at)) words numbers (numbers_in one f) table (tabled one f)
+      pub reading_fault : read one t ≡ fault → Walked (check one f) (Err (Form at)) words found (numbers_in one f) table (tabled one f)
       reading_fault e = rw (answer_is (refused (Form at)) (going_fault one _ f g.state at g.going t here some e))
 
       -- the record is whole: `r` is what the step answered, and the lent words are as it left them
-      module _ (n : ℕ) (whole_here : read one t ≡ whole n (record_at one t)) (r : Result Reader Refusal) (ids' table' blocks' words' heads' nexts' numbers' : List ℕ)
-          (comes : Comes (step one g.state at (record_at one t)) r (λ s'. Enters s' (record_at one t) at c.named table ids' table' blocks' words' heads' nexts' numbers')) where
-        pub reading_refused : (x : Refusal) → r ≡ Err x → Walked (check one f) (Err x) words' numbers' (numbers_in one f) table' (tabled one f)
+      module _ (n : ℕ) (whole_here : read one t ≡ whole n (record_at one t)) (r : Result Reader Refusal) (d' : Notes)
+          (comes : Comes (step one g.state at (record_at one t)) r (λ s'. Enters s' (record_at one t) at c.named d.table.now d')) where
+        pub reading_refused : (x : Refusal) → r ≡ Err x → Walked (check one f) (Err x) words found (numbers_in one f) table (tabled one f)
         reading_refused x e = go (step one g.state at (record_at one t)) refl comes
           where
-            go : (w : Turn) → step one g.state at (record_at one t) ≡ w → Comes w r (λ s'. Enters s' (record_at one t) at c.named table ids' table' blocks' words' heads' nexts' numbers') → Walked (check one f) (Err x) words' numbers' (numbers_in one f) table' (tabled one f)
+            go : (w : Turn) → step one g.state at (record_at one t) ≡ w → Comes w r (λ s'. Enters s' (record_at one t) at c.named d.table.now d') → Walked (check one f) (Err x) words found (numbers_in one f) table (tabled one f)
             go (next s') q h = let z : ◌≡◌ {A = ℕ} 0 1 = cc h.0 in absurd (omega arith)
             go (refused y) q h = let i : y ≡ x = cc in rw (answer_is (refused y) (going_refused one _ f g.state at g.going t here n _ y whole_here q), i)
 
-        pub reading_on : (c' : Reader) → r ≡ Ok c' → Reading f c' (at + n) ids' table' blocks' words' heads' nexts' numbers'
+        pub reading_on : (c' : Reader) → r ≡ Ok c' → Reading f c' (at + n) d'
         reading_on c' e = go (step one g.state at (record_at one t)) refl comes
           where
-            go : (w : Turn) → step one g.state at (record_at one t) ≡ w → Comes w r (λ s'. Enters s' (record_at one t) at c.named table ids' table' blocks' words' heads' nexts' numbers') → Reading f c' (at + n) ids' table' blocks' words' heads' nexts' numbers'
+            go : (w : Turn) → step one g.state at (record_at one t) ≡ w → Comes w r (λ s'. Enters s' (record_at one t) at c.named d.table.now d') → Reading f c' (at + n) d'
             go (refused y) q h = let z : ◌≡◌ {A = ℕ} 0 1 = cc in absurd (omega arith)
             go (next s') q h =
                 let took = (stepped one g.state at (record_at one t) s' q).taken in
@@ -314,10 +340,11 @@ module _ (f : List ℕ) (c : Reader) (at : ℕ) (ids table blocks words heads ne
                   holds = h.1.holds;
                   kept = kept_on g.state at (record_at one t) s' took g.kept;
                   sound = (in_range one g.state at (record_at one t) s' took).sound g.sound;
+                  staged = stage_on g.state at (record_at one t) s' took g.staged;
                   counted = omega (arith, numbers_on g.state at (record_at one t) s' took, (brought_long t).long, (read_whole one t n _ whole_here).long, g.counted);
                   tabling =
-                      g.tabling ∙ ap (λ (u : List ℕ). tabled_in one at (length g.state.numbers) (pieces one u) table) (sym here)
-                      ∙ tabled_whole one at (length g.state.numbers) table t n (record_at one t) whole_here
-                      ∙ ap₂ (λ (u : List ℕ) (k : ℕ). tabled_in one (at + n) k (pieces one u) (entered (record_at one t) at (length g.state.numbers) table)) (ap (drop n) here ∙ drop-drop n at f) (sym (numbers_on g.state at (record_at one t) s' took))
-                      ∙ ap (tabled_in one (at + n) (length s'.numbers) (pieces one (drop (at + n) f))) (sym (h.1.table_is ∙ ap (λ (k : ℕ). entered (record_at one t) at k table) (named_of c g.state g.is)));
+                      g.tabling ∙ ap (λ (u : List ℕ). tabled_in one at (length g.state.numbers) (pieces one u) d.table.now) (sym here)
+                      ∙ tabled_whole one at (length g.state.numbers) d.table.now t n (record_at one t) whole_here
+                      ∙ ap₂ (λ (u : List ℕ) (k : ℕ). tabled_in one (at + n) k (pieces one u) (entered (record_at one t) at (length g.state.numbers) d.table.now)) (ap (drop n) here ∙ drop-drop n at f) (sym (numbers_on g.state at (record_at one t) s' took))
+                      ∙ ap (tabled_in one (at + n) (length s'.numbers) (pieces one (drop (at + n) f))) (sym (h.1.table_is ∙ ap (λ (k : ℕ). entered (record_at one t) at k d.table.now) (named_of c g.state g.is)));
                 }

@@ -1,7 +1,8 @@
 -- The kind byte of a tail decides which record stands there: how long it is, whether it goes to what is open, and whether it leaves the block.
 -- There are ten kinds, so each law goes through them one by one.
-use mathlib.Core.Path.{◌≡◌, refl, ap}
+use mathlib.Core.Path.{◌≡◌, refl, ap, ◌∙◌}
 use mathlib.Core.Bool.{true, false}
+use mathlib.Core.Logic.{◌⊎◌, inl, inr}
 use mathlib.Core.List.{List}
 use Prim.Native.Nat.{ℕ, zero, suc, ◌≤◌, ◌<◌}
 use native.Mathlib.Omega.{arith}
@@ -12,21 +13,6 @@ use Rattle.fields.proofs.ByKind.{kind_header, kind_storage, kind_function, kind_
 
 pub long_at : (n k l : ℕ) → k ≡ n → length_of one k ≤ l → length_of one n ≤ l
 long_at n k l e h = rw e at h
-
--- the kind that is left once the others have been asked for
-pub kind_nine : (k : ℕ) → (k ≡ 0 → ⊥) → (k ≡ 1 → ⊥) → (k ≡ 2 → ⊥) → (k ≡ 3 → ⊥) → (k ≡ 4 → ⊥) → (k ≡ 5 → ⊥) → (k ≡ 6 → ⊥) → (k ≡ 7 → ⊥) → (k ≡ 8 → ⊥)
-    → k < 10 → k ≡ 9
-kind_nine zero n0 n1 n2 n3 n4 n5 n6 n7 n8 l = absurd (n0 refl)
-kind_nine (suc zero) n0 n1 n2 n3 n4 n5 n6 n7 n8 l = absurd (n1 refl)
-kind_nine (suc (suc zero)) n0 n1 n2 n3 n4 n5 n6 n7 n8 l = absurd (n2 refl)
-kind_nine (suc (suc (suc zero))) n0 n1 n2 n3 n4 n5 n6 n7 n8 l = absurd (n3 refl)
-kind_nine (suc (suc (suc (suc zero)))) n0 n1 n2 n3 n4 n5 n6 n7 n8 l = absurd (n4 refl)
-kind_nine (suc (suc (suc (suc (suc zero))))) n0 n1 n2 n3 n4 n5 n6 n7 n8 l = absurd (n5 refl)
-kind_nine (suc (suc (suc (suc (suc (suc zero)))))) n0 n1 n2 n3 n4 n5 n6 n7 n8 l = absurd (n6 refl)
-kind_nine (suc (suc (suc (suc (suc (suc (suc zero))))))) n0 n1 n2 n3 n4 n5 n6 n7 n8 l = absurd (n7 refl)
-kind_nine (suc (suc (suc (suc (suc (suc (suc (suc zero)))))))) n0 n1 n2 n3 n4 n5 n6 n7 n8 l = absurd (n8 refl)
-kind_nine (suc (suc (suc (suc (suc (suc (suc (suc (suc zero))))))))) n0 n1 n2 n3 n4 n5 n6 n7 n8 l = refl
-kind_nine (suc (suc (suc (suc (suc (suc (suc (suc (suc (suc k)))))))))) n0 n1 n2 n3 n4 n5 n6 n7 n8 l = absurd (omega arith)
 
 module _ (t : List ℕ) where
   pub belongs_target : u8_at t 0 ≡ 8 → belongs (record_at one t) ≡ true
@@ -49,14 +35,10 @@ module _ (t : List ℕ) where
       go (suc (suc (suc (suc (suc (suc (suc (suc (suc zero))))))))) e = ap belongs (kind_end t e)
       go (suc (suc (suc (suc (suc (suc (suc (suc (suc (suc k)))))))))) e = absurd (omega arith)
 
-  pub leaves_function : u8_at t 0 ≡ 2 → leaves (record_at one t) ≡ true
-  leaves_function e = ap leaves (kind_function t e)
-
-  pub leaves_block : u8_at t 0 ≡ 4 → leaves (record_at one t) ≡ true
-  leaves_block e = ap leaves (kind_block t e)
-
-  pub leaves_end : u8_at t 0 ≡ 9 → leaves (record_at one t) ≡ true
-  leaves_end e = ap leaves (kind_end t e)
+  pub leaves_one : (k : ℕ) → u8_at t 0 ≡ k → (k ≡ 2) ⊎ ((k ≡ 4) ⊎ (k ≡ 9)) → leaves (record_at one t) ≡ true
+  leaves_one k e (inl q) = ap leaves (kind_function t (e ∙ q))
+  leaves_one k e (inr (inl q)) = ap leaves (kind_block t (e ∙ q))
+  leaves_one k e (inr (inr q)) = ap leaves (kind_end t (e ∙ q))
 
   pub leaves_not : (u8_at t 0 ≡ 2 → ⊥) → (u8_at t 0 ≡ 4 → ⊥) → (u8_at t 0 ≡ 9 → ⊥) → u8_at t 0 < 10 → leaves (record_at one t) ≡ false
   unfolding header_at instruction_at terminator_at

@@ -5,6 +5,7 @@
 mod buckets;
 mod index;
 mod naming;
+mod notes;
 mod pending;
 mod reader;
 mod step;
@@ -15,7 +16,7 @@ ghost use Rattle.records.specs.Refusal.{number_of, value_of};
 ghost use Rattle.records.specs.Outcome.{Numbers, Checks};
 
 // Why a file, a question or a placement is refused: document 01's numbers 1 to 13, in order, without 7.
-#[derive(Clone, Copy)]
+#[derive(Clone, Copy, PartialEq, Eq, Debug)]
 pub enum Refusal {
     Short,
     Form(usize),
@@ -57,17 +58,17 @@ pub fn value_of(r: Refusal) -> usize
 {
     match r {
         Refusal::Short => 0,
-        Refusal::Form(at) => at,
-        Refusal::Repeated(at) => at,
-        Refusal::Undeclared(at) => at,
-        Refusal::Limit(n) => n,
-        Refusal::Absent(n) => n,
-        Refusal::ApplicationFull(n) => n,
-        Refusal::WorkFull(n) => n,
-        Refusal::NoPlace(id) => id,
-        Refusal::BadFixed(id) => id,
-        Refusal::Conflict(id) => id,
-        Refusal::Misfit(id) => id,
+        Refusal::Form(value)
+        | Refusal::Repeated(value)
+        | Refusal::Undeclared(value)
+        | Refusal::Limit(value)
+        | Refusal::Absent(value)
+        | Refusal::ApplicationFull(value)
+        | Refusal::WorkFull(value)
+        | Refusal::NoPlace(value)
+        | Refusal::BadFixed(value)
+        | Refusal::Conflict(value)
+        | Refusal::Misfit(value) => value,
     }
 }
 
@@ -75,11 +76,7 @@ pub fn value_of(r: Refusal) -> usize
 pub fn clear(words: &mut [u32])
     ensures { words.new ≡ replicate (length words.old) 0 }
 {
-    let mut i = 0;
-    while i < words.len() {
-        words[i] = 0;
-        i += 1;
-    }
+    words.fill(0);
 }
 
 // The units of a file, and beside them, for the walks that come after, the unit number of each ABI record and operand in file order and the

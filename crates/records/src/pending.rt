@@ -61,10 +61,7 @@ pub fn open_at(at: usize, entry: u64, least: u16, most: u16) -> Pending
 fn seen_in(o: Pending, field: u8) -> u8
     ensures { result ≡ pick (eqb field o.field) o.seen 0 }
 {
-    if field == o.field {
-        return o.seen;
-    }
-    0
+    if field == o.field { o.seen } else { 0 }
 }
 
 // The operand at the front of a tail fits.
@@ -84,15 +81,6 @@ pub fn operand_fits_in(o: Pending, tail: &[u8]) -> bool
     )
 }
 
-fn one_less(n: u8) -> u8
-    ensures { result ≡ n - 1 }
-{
-    if n == 0 {
-        return 0;
-    }
-    n - 1
-}
-
 // What is missing after an operand of the field `b`, which had `n` before: the one that must be there is missing no more, and of none or two the
 // first makes the second missing.
 fn lacks_after(lacks: u8, b: u8, n: u8) -> u8
@@ -102,21 +90,12 @@ fn lacks_after(lacks: u8, b: u8, n: u8) -> u8
     if b == 0 {
         return lacks;
     }
-    if b / 8 % 4 == 0 {
-        if n == 0 {
-            return one_less(lacks);
-        }
-        return lacks;
+    match b / 8 % 4 {
+        0 if n == 0 => lacks.saturating_sub(1),
+        3 if n == 0 => lacks + 1,
+        3 if n == 1 => lacks.saturating_sub(1),
+        _ => lacks,
     }
-    if b / 8 % 4 == 3 {
-        if n == 0 {
-            return lacks + 1;
-        }
-        if n == 1 {
-            return one_less(lacks);
-        }
-    }
-    lacks
 }
 
 // One operand more, of a field that is no lower than the last.
@@ -128,14 +107,10 @@ pub fn with_given(o: Pending, field: u8) -> Pending
     let b = field_in(o.row, field);
     let n = seen_in(o, field);
     Pending {
-        place: o.place,
-        row: o.row,
         field,
         seen: n + 1,
         lacks: lacks_after(o.lacks, b, n),
-        least: o.least,
-        most: o.most,
-        targets: o.targets,
+        ..o
     }
 }
 
@@ -144,17 +119,15 @@ pub fn with_target(o: Pending) -> Pending
     requires { o.targets < o.most }
     ensures { (x : Opened) → o ≡ pending_of x → result ≡ pending_of (with_target x) }
 {
-    let mut next = o;
-    next.targets = o.targets + 1;
-    next
+    Pending {
+        targets: o.targets + 1,
+        ..o
+    }
 }
 
 // No operand and no target is missing.
 pub fn is_finished(o: Pending) -> bool
     ensures { (x : Opened) → o ≡ pending_of x → result ≡ finished x }
 {
-    if o.lacks != 0 {
-        return false;
-    }
-    o.least <= o.targets
+    o.lacks == 0 && o.least <= o.targets
 }

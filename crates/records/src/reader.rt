@@ -1,28 +1,26 @@
 // Where the reader is, and the answer at a record.
-ghost use Rattle.std.specs.Prelude.{◌≡◌};
+ghost use Rattle.std.specs.Prelude.{◌≡◌, ℕ};
 ghost use Rattle.records.specs.Step.{Opened, State, start, with_opened};
-ghost use Rattle.records.specs.Mirror.{pending_of, reader_of};
+ghost use Rattle.records.specs.Mirror.{pending_of, stage_of, reader_of};
 
 use crate::pending::{Pending, nothing_open};
 
-// The stages of the order of records.
-pub const AT_START: u8 = 0;
+// How far the order of records has come.
+#[derive(Clone, Copy, PartialEq, Eq)]
+pub enum Stage {
+    AtStart,
+    InStorages,
+    InAbi,
+    InBlock,
+    AfterBlock,
+    AtEnd,
+}
 
-pub const IN_STORAGES: u8 = 1;
-
-pub const IN_ABI: u8 = 2;
-
-pub const IN_BLOCK: u8 = 3;
-
-pub const AFTER_BLOCK: u8 = 4;
-
-pub const AT_END: u8 = 5;
-
-// How far the order of records has come; how many functions, blocks of this function, units and unit numbers there are; where the last block
+// The stage; how many functions, blocks of this function, units and unit numbers there are; where the last block
 // stands; and what is open.
 #[derive(Clone, Copy)]
 pub struct Reader {
-    pub stage: u8,
+    pub stage: Stage,
     pub functions: usize,
     pub blocks: usize,
     pub block: usize,
@@ -35,7 +33,7 @@ pub fn start_reading() -> Reader
     ensures { result ≡ reader_of start }
 {
     Reader {
-        stage: AT_START,
+        stage: Stage::AtStart,
         functions: 0,
         blocks: 0,
         block: 0,
@@ -46,17 +44,9 @@ pub fn start_reading() -> Reader
 }
 
 // A stage, and what is open in it.
-pub fn with_now(c: Reader, stage: u8, now: Pending) -> Reader
+pub fn with_now(c: Reader, stage: Stage, now: Pending) -> Reader
     ensures { (result.units ≡ c.units) × (result.named ≡ c.named)
-        × ((s : State) (x : Opened) → c ≡ reader_of s → now ≡ pending_of x → result ≡ reader_of (with_opened stage x s)) }
+        × ((s : State) (n : ℕ) (x : Opened) → c ≡ reader_of s → stage ≡ stage_of n → now ≡ pending_of x → result ≡ reader_of (with_opened n x s)) }
 {
-    Reader {
-        stage,
-        functions: c.functions,
-        blocks: c.blocks,
-        block: c.block,
-        units: c.units,
-        named: c.named,
-        now,
-    }
+    Reader { stage, now, ..c }
 }

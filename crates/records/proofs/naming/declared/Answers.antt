@@ -3,8 +3,8 @@
 use Rattle.fields.specs.Pick.{tests}
 use Rattle.records.proofs.naming.declared.Goals as goal
 
-pub returns-then-id-ge256 : goal.returns-then-id-ge256
-returns-then-id-ge256 c = search tests
+pub returns-then-id-lt256 : goal.returns-then-id-lt256
+returns-then-id-lt256 c = search tests
 
-pub returns : goal.returns
-returns c = search tests
+pub returns-else-id-lt256 : goal.returns-else-id-lt256
+returns-else-id-lt256 c = search tests

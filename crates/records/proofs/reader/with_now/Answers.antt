@@ -5,4 +5,4 @@ use Rattle.records.proofs.Held.{reader_opened}
 use Rattle.records.proofs.reader.with_now.Goals as goal
 
 pub returns : goal.returns
-returns c = (refl, refl, λ s x e n. reader_opened _ s e _ x _ n)
+returns c = (refl, refl, λ s n x e p q. reader_opened _ s e _ n x _ p q)

@@ -3,17 +3,13 @@
 use mathlib.Core.Path.{sym, ◌∙◌}
 use native.Mathlib.Omega.{arith}
 use Rattle.fields.specs.Pick.{pick_yes, pick_no}
-use Rattle.records.proofs.TenKinds.{leaves_function, leaves_block, leaves_end, leaves_not}
+use Rattle.records.specs.Step.{in_block}
+use Rattle.records.proofs.Held.{same_stage}
+use Rattle.records.proofs.TenKinds.{leaves_one, leaves_not}
 use Rattle.records.proofs.step.cuts.Goals as goal
 
-pub returns-then-kind-eq2 : goal.returns-then-kind-eq2
-returns-then-kind-eq2 c = λ t q l. sym (pick_yes _ _ _ (leaves_function t (q ∙ c.if-kind-eq2.true)))
+pub returns-in-2 : goal.returns-in-2
+returns-in-2 c = λ t n q l p. c.eq.ensures ∙ same_stage _ n in_block (omega arith) p ∙ sym (pick_yes _ _ _ (leaves_one t _ q c.in-2.is))
 
-pub returns-then-kind-eq4 : goal.returns-then-kind-eq4
-returns-then-kind-eq4 c = λ t q l. sym (pick_yes _ _ _ (leaves_block t (q ∙ c.if-kind-eq4.true)))
-
-pub returns-then-kind-eq9 : goal.returns-then-kind-eq9
-returns-then-kind-eq9 c = λ t q l. sym (pick_yes _ _ _ (leaves_end t (q ∙ c.if-kind-eq9.true)))
-
-pub returns : goal.returns
-returns c = λ t q l. sym (pick_no _ _ _ (leaves_not t (λ z. c.if-kind-eq2.false (sym q ∙ z)) (λ z. c.if-kind-eq4.false (sym q ∙ z)) (λ z. c.if-kind-eq9.false (sym q ∙ z)) (omega arith)))
+pub returns-in_default : goal.returns-in_default
+returns-in_default c = λ t n q l p. sym (pick_no _ _ _ (leaves_not t (λ z. grind arith) (λ z. grind arith) (λ z. grind arith) (omega arith)))

@@ -2,23 +2,26 @@
 -- Each other way out is the refusal of that test.
 use Rattle.std.specs.Prelude.{Ok}
 use mathlib.Core.Path.{sym, ap, ◌∙◌}
+use native.Mathlib.Omega.{arith}
 use Rattle.fields.specs.Record.{header_at}
-use Rattle.records.specs.Step.{admit}
-use Rattle.records.proofs.Held.{stage_is, stage_not, reader_header, holds_header}
+use Rattle.records.specs.Step.{at_start, admit}
+use Rattle.records.proofs.Held.{stage_test, reader_header, holds_header}
 use Rattle.records.proofs.Comings.{comes_order, comes_range, comes_admit}
 use Rattle.records.proofs.step.take_header.Goals as goal
+use Rattle.records.proofs.step.take_header.Goals.{then-ne-via-then-ne, then-ne-via-else-ne+then-not-header_fits}
 
-pub returns-then-c-ne-AT_START : goal.returns-then-c-ne-AT_START
+pub returns-then-ne : goal.returns-then-ne
 unfolding header_at
-returns-then-c-ne-AT_START c = λ s is fs bs ws hs ns ks e h. comes_order s _ (header_at _) _ (stage_not _ s e _ c.if-c-ne-AT_START.true)
-
-pub returns-then-header_fits : goal.returns-then-header_fits
-unfolding header_at admit
-returns-then-header_fits c =
-    λ s is fs bs ws hs ns ks e h. comes_admit s _ (header_at _) _ _ (stage_is _ s e _ c.if-c-ne-AT_START.false) (sym c.header_fits.ensures ∙ c.if-header_fits.true)
-    (ap Ok (reader_header _ s e), holds_header s is fs bs ws hs ns ks h)
+returns-then-ne c =
+    λ s d e h.
+    elim c.then-ne.branch [
+      | then-ne-via-then-ne w ↦ comes_order s _ (header_at _) _ (stage_test _ s e at_start _ _ (omega arith) c.ne.ensures w.if-ne.true)
+      | then-ne-via-else-ne+then-not-header_fits w ↦ comes_range s _ (header_at _) _ (stage_test _ s e at_start _ _ (omega arith) c.ne.ensures w.if-ne.false) (sym w.header_fits.ensures ∙ w.if-not-header_fits.true)
+    ]
 
 pub returns : goal.returns
-unfolding header_at
+unfolding header_at admit
 returns c =
-    λ s is fs bs ws hs ns ks e h. comes_range s _ (header_at _) _ (stage_is _ s e _ c.if-c-ne-AT_START.false) (sym c.header_fits.ensures ∙ c.if-header_fits.false)
+    λ s d e h.
+    comes_admit s _ (header_at _) _ _ (stage_test _ s e at_start _ _ (omega arith) c.ne.ensures c.if-ne.false) (sym c.header_fits.ensures ∙ c.if-not-header_fits.false)
+    (ap Ok (reader_header _ s e), holds_header s d h)
