@@ -52,7 +52,12 @@ pub fn rows_at(
 }
 
 // Hands a found row over to the lent one, which a refusal leaves as it is.
-pub fn give_row(r: Result<(), Refusal>, found: &[u64], n: usize, row: &mut [u64]) -> Result<(), Refusal>
+pub fn give_row(
+    r: Result<(), Refusal>,
+    found: &[u64],
+    n: usize,
+    row: &mut [u64],
+) -> Result<(), Refusal>
     requires { (length found.now ≡ n) × (n ≤ length row.old) }
     ensures { (result ≡ r) × (row.new ≡ given r found.now n row.old) }
 {

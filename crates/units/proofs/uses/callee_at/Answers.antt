@@ -5,11 +5,5 @@ use Prim.Native.Nat.{◌+◌}
 use native.Mathlib.Omega.{arith}
 use Rattle.units.proofs.uses.callee_at.Goals as goal
 
-pub overflow_cast-result : goal.overflow_cast-result
-overflow_cast-result c = omega (arith, c.type_inv.table c.args.n)
-
-pub overflow_cast-result-2 : goal.overflow_cast-result-2
-overflow_cast-result-2 c = omega (arith, c.type_inv.table (256 + c.args.n))
-
 pub returns : goal.returns
-returns c = (refl, c.requires.sound c.args.n (omega arith))
+returns c = (refl, c.args.source.sane.sound c.args.n (omega arith))
