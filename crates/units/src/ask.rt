@@ -9,7 +9,7 @@ ghost use Rattle.units.specs.Seek.{Seeks, Shows, given, storages_below};
 
 use crate::cursor::Cursor;
 use crate::locate::{Site, locate};
-use crate::uses::uses_at;
+use crate::numbered::Numbered;
 use records::Refusal;
 
 // Checks the file and looks for the step. Where there is none, the unit words are cleared again.
@@ -47,7 +47,12 @@ pub fn rows_at(
     let mut numbers = [0u16; 2341];
     let mut table = [0u16; 512];
     let site = find_step(file, place, words, &mut numbers, &mut table)?;
-    uses_at(file, &numbers, &table, site.own, site.here, reads, writes);
+    let source = Numbered {
+        file,
+        numbers: &numbers,
+        table: &table,
+    };
+    source.uses_at(site, reads, writes);
     Ok(())
 }
 

@@ -7,7 +7,7 @@ ghost use Rattle.fields.specs.Edition.{one};
 ghost use Rattle.records.specs.Program.{Function, program, row_by};
 ghost use Rattle.units.specs.Uses.{reads as reads_of, writes as writes_of};
 ghost use Rattle.units.specs.Rows.{unit_row};
-ghost use Rattle.units.specs.Along.{from, step_from, IsStep, StandsAt, Sound, Sane, Ready};
+ghost use Rattle.units.specs.Along.{from, step_from, IsStep, StandsAt, Sound, SoundSite, Sane, Ready};
 ghost use Rattle.units.specs.Marks.{jotted, marks, Behind, roles_in, fields_in, opens_seven, wanted_by, read_in, written_in, callee_in, takes_abis, read_source, read_role, read_abis, written_abis};
 
 use crate::cursor::Cursor;
@@ -242,14 +242,16 @@ fn callee_of(tail: &[u8]) -> u8
 impl Numbered<'_> {
     // The step at a place reads and writes these units. Answers the cursor behind its operands.
     pub fn uses_at(self, site: Site, reads: &mut [u64], writes: &mut [u64]) -> Cursor
-        requires { Sound site.own × Sound site.here × (site.here.at + 4 ≤ length self.file.now) × (length reads.old ≡ 8) × (length writes.old ≡ 8) }
-        ensures { Sound result × (site.here.at + 4 ≤ result.at) × (result.at ≤ length self.entry.file.now)
-            × (result.at ≡ site.here.at + 4 + 7 * length (from self.entry.file.now (site.here.at + 4)).operands)
-            × ((us : List ℕ) (f : Function) → Ready self.entry.file.now us self.entry.numbers.now self.entry.table.now → StandsAt self.entry.file.now site.own
-            → f.abis ≡ (from self.entry.file.now site.own.at).abis → StandsAt self.entry.file.now site.here → IsStep self.entry.file.now site.here.at
+        requires site { SoundSite self.file.now site }
+        requires rows { (length reads.old ≡ 8) × (length writes.old ≡ 8) }
+        ensures sound { Sound result × (site.here.at + 4 ≤ result.at) × (result.at ≤ length self.entry.file.now) }
+        ensures behind { result.at ≡ site.here.at + 4 + 7 * length (from self.entry.file.now (site.here.at + 4)).operands }
+        ensures uses { (us : List ℕ) (f : Function) → Ready self.entry.file.now us self.entry.numbers.now self.entry.table.now
+            → StandsAt self.entry.file.now site.own → f.abis ≡ (from self.entry.file.now site.own.at).abis
+            → StandsAt self.entry.file.now site.here → IsStep self.entry.file.now site.here.at
             → (reads.new ≡ unit_row one us (reads_of one (program one self.entry.file.now) f (step_from self.entry.file.now site.here.at)))
             × (writes.new ≡ unit_row one us (writes_of one (program one self.entry.file.now) (step_from self.entry.file.now site.here.at)))
-            × StandsAt self.entry.file.now result) }
+            × StandsAt self.entry.file.now result }
     {
         rows::clear(reads, 0, 8);
         rows::clear(writes, 0, 8);

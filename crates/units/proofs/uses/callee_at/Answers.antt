@@ -1,7 +1,6 @@
 -- The two entries are those of the definition, and a sane table has them in proportion.
 -- An entry fits sixteen bits, so it fits a place.
 use mathlib.Core.Path.{refl}
-use Prim.Native.Nat.{◌+◌}
 use native.Mathlib.Omega.{arith}
 use Rattle.units.proofs.uses.callee_at.Goals as goal
 
