@@ -1,7 +1,7 @@
 -- The step that was sought stands in the function behind the one cursor and begins at the other, so that its rows are those of the place.
 -- A refusal is handed on with the words as the search left them.
-use borrow.Author.Rules.{rules}
 use Rattle.std.proofs.lemmas.Result.{err_from_is_err_and}
+use borrow.Author.Rules.{rules}
 use Rattle.units.proofs.Asking.{reached, sought_refused, shows_done}
 use Rattle.units.proofs.ask.rows_at.Goals as goal
 
@@ -13,7 +13,7 @@ uses_at-requires c =
 pub returns : goal.returns
 returns c =
     let r = reached _ _ _ _ _ _ c.find_step.ensures _ c.in_ok-site.was in
-    shows_done _ _ _ _ _ _ _ r _ _ c.uses_at.ensures.uses
+    shows_done _ _ _ _ _ _ _ r _ c.uses_at.ensures.uses
 
 pub returns-in_err-site : goal.returns-in_err-site
 returns-in_err-site c =
