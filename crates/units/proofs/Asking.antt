@@ -5,16 +5,14 @@ use mathlib.Core.Path.{◌≡◌, refl, sym, ap, ap₂, ◌∙◌}
 use mathlib.Core.Logic.{◌⊎◌, inl, inr}
 use mathlib.Core.Bool.{Bool, true, false}
 use mathlib.Core.List.{List, [], ◌++◌}
-use Prim.Native.Nat.{ℕ, ◌+◌, ◌≤◌, ◌<◌}
+use Prim.Native.Nat.{ℕ, ◌≤◌, ◌<◌}
 use native.Mathlib.Omega.{arith}
-use lib.Dec.{ltb, leb, eqb}
+use lib.Dec.{ltb, leb}
 use lib.ListN.{length, get_or, drop, replicate}
 use borrow.Author.Tests.{le-ltb, lt-ltb, ne_eqb, le-leb, lt-leb}
-use Rattle.rows.specs.Row.{put, row, pack}
-use Rattle.rows.proofs.Rows.{row_whole}
+use Rattle.rows.specs.Row.{pack}
 use Rattle.fields.specs.Pick.{pick, pick_yes, pick_no, ◌and◌, ◌or◌, has}
 use Rattle.fields.specs.Edition.{one}
-use Rattle.fields.specs.Record.{u8_at}
 use Rattle.records.specs.Check.{Answer, units, refusal, check}
 use Rattle.records.specs.Outcome.{Outcome, laid, outcome_by, Numbers}
 use Rattle.records.specs.Program.{Function, empty, step_of, program}
@@ -24,12 +22,13 @@ use Rattle.records.specs.declared.Refusal.TheVariants.{Short, Absent}
 use Rattle.records.proofs.Accepted.{accepted}
 use Rattle.records.proofs.Outcomes.{cleared, laid_rest}
 use Rattle.units.specs.Uses.{reads, writes, effect}
-use Rattle.units.specs.Rows.{unit_row, storage_row}
+use Rattle.units.specs.Rows.{unit_row}
 use Rattle.units.specs.Along.{from, function_from, step_from, IsStep, StandsAt, Sane, Ready, SoundBoth, Locates}
-use Rattle.units.specs.Ask.{Asked, Query, asked_of, asked, Asks, Told, told_of, told, Tells}
-use Rattle.units.specs.Seek.{Refuses, Reached, Seeks, Shown, Shows, given, storages_below}
+use Rattle.units.specs.Ask.{Asked, Query, row_of, storage_row_of, asked_of, asked, Asks, Told, told_of, told, Tells}
+use Rattle.units.specs.Seek.{Refuses, Reached, Seeks, Shown, Shows, storages_below}
 use Rattle.units.specs.declared.cursor.Cursor.{Cursor}
 use Rattle.units.specs.declared.locate.Site.{Site}
+use Rattle.units.specs.declared.ask.Uses.{Uses}
 use Rattle.units.proofs.Indexing.{tabled_index}
 use Rattle.units.proofs.Storages.{storages_are, reads_within, writes_within}
 
@@ -41,21 +40,6 @@ or_yes : (b : Bool) → (b or true) ≡ true
 unfolding pick
 or_yes true = refl
 or_yes false = refl
-
--- a row written over the front of a longer one
-pub copied : (row₀ found row' : List ℕ) (n : ℕ) → length found ≡ n → row' ≡ put row₀ 0 (row found 0 n) → row' ≡ found ++ drop n row₀
-unfolding put
-copied row₀ found row' n l e =
-    let k : row found 0 n ≡ found = row_whole found n (omega arith) in
-    let i : 0 + length found ≡ n = omega arith in
-    e ∙ ap (λ (v : List ℕ). put row₀ 0 v) k ∙ ap (λ (i : ℕ). found ++ drop i row₀) i
-
-module _ (r : Result (Unit {0}) Refusal) (found row₀ : List ℕ) (n : ℕ) where
-  pub gives_done : (row' : List ℕ) → r ≡ (Ok tt) → length found ≡ n → row' ≡ put row₀ 0 (row found 0 n) → ((Ok tt) ≡ r) × (row' ≡ given r found n row₀)
-  gives_done row' e l h = (sym e, rw e (copied row₀ found row' n l h))
-
-  pub gives_refused : (x : Refusal) → r ≡ Err x → (Err x ≡ r) × (row₀ ≡ given r found n row₀)
-  gives_refused x e = (sym e, rw e)
 
 -- The observable effect -----------------------------------------------------------------------------------------------------------------------
 
@@ -174,11 +158,11 @@ module _ (f : List ℕ) (place : ℕ) where
 
   -- The rows of the step ---------------------------------------------------------------------------------------------------------------------
 
-  module _ (site : Site) (next : Cursor) (words found table : List ℕ) (h : Reached f place site words found table) (reads' writes' : List ℕ) where
+  module _ (site : Site) (next : Cursor) (words found table : List ℕ) (h : Reached f place site words found table) (uses : Uses) where
     pub shows_done : ((us : List ℕ) (fn : Function) → Ready f us found table → StandsAt f site.own
         → fn.abis ≡ (from f site.own.at).abis → StandsAt f site.here → IsStep f site.here.at
-        → (reads' ≡ unit_row one us (reads one (program one f) fn (step_from f site.here.at))) × (writes' ≡ unit_row one us (writes one (program one f) (step_from f site.here.at))) × StandsAt f next)
-        → Shows f place (Ok tt) words reads' writes'
+        → (uses.reads ≡ unit_row one us (reads one (program one f) fn (step_from f site.here.at))) × (uses.writes ≡ unit_row one us (writes one (program one f) (step_from f site.here.at))) × StandsAt f next)
+        → Shows f place (Ok uses) words
     shows_done k =
         let l = h.located in
         let both = k h.us (function_from f l.0 site.own.at) h.ready l.2 refl l.3 (rw l.4 l.5) in
@@ -214,15 +198,18 @@ module _ (f : List ℕ) (place : ℕ) where
       asks_refused x words (inl e) h = rw (asked_long, e, h, laid_rest 512 [] before)
       asks_refused x words (inr e) h = rw (asked_long, e.accepted, e.away, e.says, h, laid_rest 512 [] before)
 
-      -- `found` is handed over
-      pub asks_given : (r r' : Result (Unit {0}) Refusal) (words reads' writes' found row' : List ℕ) → Shows f place r words reads' writes' → r' ≡ r → row' ≡ given r found n row₀ → length found ≡ n
-          → ((s : Shown f place words reads' writes') → found ≡ q one (program one f) s.us s.fn s.st) → Asks q n f place before row₀ r' (words ++ drop 512 before) row'
-      asks_given (Ok tt) r' words reads' writes' found row' s d e l k =
-          let g = k s in
-          rw (asked_long, s.accepted, s.there, ← g, l, d, e, s.words_are, laid_rest 512 s.us before)
-      asks_given (Err x) r' words reads' writes' found row' s d e l k = rw (d, e) (asks_refused x words s.0 s.1)
+      pub asks_sought : (r : Result Uses Refusal) (words : List ℕ) → Shows f place r words → (x : Refusal) → r ≡ Err x → Asks q n f place before row₀ (Err x) (words ++ drop 512 before) row₀
+      asks_sought r words s x e = let h : Refuses f place x × (words ≡ laid 512 [] []) = rw e at s in asks_refused x words h.0 h.1
 
-  -- the storages of the rows
+      -- `found` is handed over
+      pub asks_given : (words reads' writes' found : List ℕ) → length found ≡ n → (s : Shown f place words reads' writes') → found ≡ q one (program one f) s.us s.fn s.st
+          → Asks q n f place before row₀ (Ok tt) (words ++ drop 512 before) (found ++ drop n row₀)
+      asks_given words reads' writes' found l s g = rw (asked_long, s.accepted, s.there, ← g, l, s.words_are, laid_rest 512 s.us before)
+
+  pub shown : (r : Result Uses Refusal) (words : List ℕ) → Shows f place r words → (uses : Uses) → r ≡ Ok uses → Shown f place words uses.reads uses.writes
+  shown r words s uses e = rw e at s
+
+  -- the rows that are asked for, and their storages
   module _ (before words reads' writes' : List ℕ) (s : Shown f place words reads' writes') where
     all_words : words ++ drop 512 before ≡ laid 512 s.us before
     all_words = ap (λ (v : List ℕ). v ++ drop 512 before) s.words_are ∙ laid_rest 512 s.us before
@@ -230,15 +217,21 @@ module _ (f : List ℕ) (place : ℕ) where
     few : length s.us ≤ 512
     few = (accepted one f s.us s.accepted).0.units_most
 
-    pub storages_read : (found : List ℕ) → found ≡ pack 4 (λ i. has i (storages_below (words ++ drop 512 before) reads' 512)) → found ≡ storage_row one (reads one (program one f) s.fn s.st)
-    storages_read found e =
-        e ∙ ap₂ (λ (v w : List ℕ). pack 4 (λ i. has i (storages_below v w 512))) all_words s.reads_are
-        ∙ storages_are s.us _ before few (reads_within f s.us place s.fn s.st s.accepted s.there)
+    pub units_asked : (written : Bool) (found : List ℕ) → found ≡ pick written writes' reads' → found ≡ row_of written one (program one f) s.us s.fn s.st
+    unfolding pick
+    units_asked true found e = e ∙ s.writes_are
+    units_asked false found e = e ∙ s.reads_are
 
-    pub storages_written : (found : List ℕ) → found ≡ pack 4 (λ i. has i (storages_below (words ++ drop 512 before) writes' 512)) → found ≡ storage_row one (writes one (program one f) s.st)
-    storages_written found e =
-        e ∙ ap₂ (λ (v w : List ℕ). pack 4 (λ i. has i (storages_below v w 512))) all_words s.writes_are
-        ∙ storages_are s.us _ before few (writes_within f s.us place s.fn s.st s.accepted s.there)
+    abbrev stored : List ℕ → List ℕ → List ℕ
+    stored v w = pack 4 (λ i. has i (storages_below v w 512))
+
+    pub storages_asked : (written : Bool) (asked found : List ℕ) → asked ≡ pick written writes' reads'
+        → found ≡ pack 4 (λ i. has i (storages_below (words ++ drop 512 before) asked 512)) → found ≡ storage_row_of written one (program one f) s.us s.fn s.st
+    unfolding pick
+    storages_asked true asked found p e =
+        e ∙ ap₂ stored all_words (p ∙ s.writes_are) ∙ storages_are s.us _ before few (writes_within f s.us place s.fn s.st s.accepted s.there)
+    storages_asked false asked found p e =
+        e ∙ ap₂ stored all_words (p ∙ s.reads_are) ∙ storages_are s.us _ before few (reads_within f s.us place s.fn s.st s.accepted s.there)
 
   -- The effect query -------------------------------------------------------------------------------------------------------------------------
 

@@ -1,5 +1,5 @@
 -- What the queries do on the way to their answers: the contracts of the functions behind them. No public contract cites it.
-use Rattle.std.specs.Prelude.{◌≡◌, ◌⊎◌, Some, true, List, [], ◌∷◌, ◌++◌, ℕ, zero, suc, ◌≤◌, length, get_or, drop, Result, Ok, Err}
+use Rattle.std.specs.Prelude.{◌≡◌, ◌⊎◌, Some, true, List, [], ◌∷◌, ℕ, zero, suc, ◌≤◌, length, get_or, Result, Ok, Err}
 use Rattle.rows.specs.Row.{member}
 use Rattle.fields.specs.Pick.{pick, has}
 use Rattle.fields.specs.Edition.{one}
@@ -13,6 +13,7 @@ use Rattle.units.specs.Uses.{reads, writes, storage_of}
 use Rattle.units.specs.Rows.{unit_row}
 use Rattle.units.specs.Along.{Sane, Ready, Locates, SoundBoth}
 use Rattle.units.specs.declared.locate.Site.{Site}
+use Rattle.units.specs.declared.ask.Uses.{Uses}
 
 -- The file is refused, or it is accepted and no step begins at the place.
 pub record Absence (f : List ℕ) (place : ℕ) (x : Refusal) : Type 0 where
@@ -49,14 +50,9 @@ pub record Shown (f : List ℕ) (place : ℕ) (words reads' writes' : List ℕ) 
   pub reads_are : reads' ≡ unit_row one us (reads one (program one f) fn st)
   pub writes_are : writes' ≡ unit_row one us (writes one (program one f) st)
 
-abbrev pub Shows : List ℕ → ℕ → Result (Unit {0}) Refusal → List ℕ → List ℕ → List ℕ → Type 0
-Shows f place (Ok tt) words reads' writes' = Shown f place words reads' writes'
-Shows f place (Err x) words reads' writes' = Refuses f place x × (words ≡ laid 512 [] [])
-
--- A row is handed over on success alone.
-abbrev pub given : Result (Unit {0}) Refusal → List ℕ → ℕ → List ℕ → List ℕ
-given (Ok tt) found n row = found ++ drop n row
-given (Err x) found n row = row
+abbrev pub Shows : List ℕ → ℕ → Result Uses Refusal → List ℕ → Type 0
+Shows f place (Ok uses) words = Shown f place words uses.reads uses.writes
+Shows f place (Err x) words = Refuses f place x × (words ≡ laid 512 [] [])
 
 -- Every word of a set is one of the units.
 abbrev pub Within : List ℕ → List ℕ → Type 0

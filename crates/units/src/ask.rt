@@ -1,15 +1,15 @@
 // The common work of the queries: the step at a place with its rows, and the storages of a row of units.
 ghost use Rattle.std.specs.Prelude.{◌≡◌, ◌/◌, ◌%◌, ◌≤◌, length};
 ghost use Rattle.rows.specs.Row.{pack};
-ghost use Rattle.fields.specs.Pick.{has};
+ghost use Rattle.fields.specs.Pick.{pick, has};
 ghost use Rattle.records.specs.Program.{empty, step_of};
 ghost use Rattle.units.specs.Uses.{effect};
 ghost use Rattle.units.specs.Along.{step_from};
-ghost use Rattle.units.specs.Seek.{Seeks, Shows, given, storages_below};
+ghost use Rattle.units.specs.Seek.{Seeks, Shows, storages_below};
 
 use crate::cursor::Cursor;
 use crate::locate::{Site, locate};
-use crate::uses::uses_at;
+use crate::numbered::Numbered;
 use records::Refusal;
 
 // Checks the file and looks for the step. Where there is none, the unit words are cleared again.
@@ -33,41 +33,42 @@ pub fn find_step(
     }
 }
 
+// What a step reads and what it writes, each as a row of units.
+#[derive(Drop)]
+pub struct Uses {
+    pub reads: [u64; 8],
+    pub writes: [u64; 8],
+}
+
+impl Uses {
+    // The row that is asked for.
+    #[tactic(auto, unfolding(fields::specs::Pick::pick))]
+    pub fn asked(&self, written: bool) -> &[u64; 8]
+        ensures { result.now ≡ pick written self.now.writes self.now.reads }
+    {
+        if written { &self.writes } else { &self.reads }
+    }
+}
+
 // Both rows of the step at a place.
-pub fn rows_at(
-    file: &[u8],
-    place: usize,
-    words: &mut [u32],
-    reads: &mut [u64],
-    writes: &mut [u64],
-) -> Result<(), Refusal>
-    requires { (length words.old ≡ 512) × (length reads.old ≡ 8) × (length writes.old ≡ 8) }
-    ensures { Shows file.now place result words.new reads.new writes.new }
+pub fn rows_at(file: &[u8], place: usize, words: &mut [u32]) -> Result<Uses, Refusal>
+    requires { length words.old ≡ 512 }
+    ensures { Shows file.now place result words.new }
 {
     let mut numbers = [0u16; 2341];
     let mut table = [0u16; 512];
     let site = find_step(file, place, words, &mut numbers, &mut table)?;
-    uses_at(file, &numbers, &table, site.own, site.here, reads, writes);
-    Ok(())
-}
-
-// Hands a found row over to the lent one, which a refusal leaves as it is.
-pub fn give_row(
-    r: Result<(), Refusal>,
-    found: &[u64],
-    n: usize,
-    row: &mut [u64],
-) -> Result<(), Refusal>
-    requires { (length found.now ≡ n) × (n ≤ length row.old) }
-    ensures { (result ≡ r) × (row.new ≡ given r found.now n row.old) }
-{
-    match r {
-        Ok(()) => {
-            rows::copy_row(row, 0, found, 0, n);
-            Ok(())
-        }
-        Err(x) => Err(x),
-    }
+    let source = Numbered {
+        file,
+        numbers: &numbers,
+        table: &table,
+    };
+    let mut uses = Uses {
+        reads: [0; 8],
+        writes: [0; 8],
+    };
+    source.uses_at(site, &mut uses.reads, &mut uses.writes);
+    Ok(uses)
 }
 
 // The storage that a unit's word names.

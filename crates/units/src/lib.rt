@@ -5,6 +5,7 @@
 mod ask;
 pub mod cursor;
 pub mod locate;
+pub mod numbered;
 pub mod uses;
 
 ghost use Rattle.units.specs.Ask.{read_row, write_row, storage_read_row, storage_write_row, row_of, storage_row_of, Asks, Tells};
@@ -22,22 +23,15 @@ fn unit_row(
 ) -> Result<(), Refusal>
     ensures { Asks (row_of written) 8 file.now place units.old row.old result units.new row.new }
 {
-    if units.len() < 512 {
+    if units.len() < 512 || row.len() < 8 {
         return Err(Refusal::Short);
     }
-    if row.len() < 8 {
-        return Err(Refusal::Short);
-    }
-    let mut reads = [0u64; 8];
-    let mut writes = [0u64; 8];
-    let r = ask::rows_at(file, place, &mut units[..512], &mut reads, &mut writes);
-    if written {
-        return ask::give_row(r, &writes, 8, row);
-    }
-    ask::give_row(r, &reads, 8, row)
+    let uses = ask::rows_at(file, place, &mut units[..512])?;
+    row[..8].copy_from_slice(uses.asked(written));
+    Ok(())
 }
 
-// The storages of these units. Where the question is refused, the units found are none and nothing is handed over.
+// The storages of these units.
 fn storage_row(
     file: &[u8],
     place: usize,
@@ -47,22 +41,12 @@ fn storage_row(
 ) -> Result<(), Refusal>
     ensures { Asks (storage_row_of written) 4 file.now place units.old row.old result units.new row.new }
 {
-    if units.len() < 512 {
+    if units.len() < 512 || row.len() < 4 {
         return Err(Refusal::Short);
     }
-    if row.len() < 4 {
-        return Err(Refusal::Short);
-    }
-    let mut reads = [0u64; 8];
-    let mut writes = [0u64; 8];
-    let r = ask::rows_at(file, place, &mut units[..512], &mut reads, &mut writes);
-    let mut found = [0u64; 4];
-    if written {
-        ask::storages_of(units, &writes, &mut found);
-        return ask::give_row(r, &found, 4, row);
-    }
-    ask::storages_of(units, &reads, &mut found);
-    ask::give_row(r, &found, 4, row)
+    let uses = ask::rows_at(file, place, &mut units[..512])?;
+    ask::storages_of(units, uses.asked(written), &mut row[..4]);
+    Ok(())
 }
 
 // The units that the step at a place reads.

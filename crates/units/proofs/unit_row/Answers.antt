@@ -1,33 +1,26 @@
 -- A short buffer is refused untouched; else the first 512 words are lent on, and the row that was asked for is handed over on success alone.
 -- What lies past the row's eight words and past the 512 stays.
 use borrow.Author.Rules.{rules}
-use mathlib.Core.Path.{refl}
+use mathlib.Core.Path.{◌∙◌}
 use mathlib.Core.Logic.{inl, inr}
-use lib.Seq.{length-take-le}
-use Rattle.units.specs.Ask.{read_row, write_row, row_of}
-use Rattle.units.proofs.Asking.{asks_short, asks_given}
+use Rattle.std.proofs.lemmas.Result.{err_from_is_err_and}
+use Rattle.units.specs.Ask.{row_of}
+use Rattle.units.proofs.Asking.{asks_short, asks_sought, asks_given, shown, units_asked}
 use Rattle.units.proofs.unit_row.Goals as goal
+use Rattle.units.proofs.unit_row.Goals.{then-units-lt512-via-then-units-lt512, then-units-lt512-via-else-units-lt512+then-row-lt8}
 
 pub returns-then-units-lt512 : goal.returns-then-units-lt512
-returns-then-units-lt512 c = asks_short _ _ (row_of c.args.written) 8 _ _ (inl c.if-units-lt512.true)
+returns-then-units-lt512 c = asks_short _ _ (row_of c.args.written) 8 _ _ (elim c.then-units-lt512.branch [
+  | then-units-lt512-via-then-units-lt512 w ↦ inl w.if-units-lt512.true
+  | then-units-lt512-via-else-units-lt512+then-row-lt8 w ↦ inr w.if-row-lt8.true
+])
 
-pub returns-then-row-lt8 : goal.returns-then-row-lt8
-returns-then-row-lt8 c = asks_short _ _ (row_of c.args.written) 8 _ _ (inr c.if-row-lt8.true)
-
-pub slice_bounds-rows_at-end-2 : goal.slice_bounds-rows_at-end-2
-slice_bounds-rows_at-end-2 c = search (rules, length-take-le)
-
-pub rows_at-r-requires : goal.rows_at-r-requires
-rows_at-r-requires c = (length-take-le 512 c.args.units.now (search rules), refl, refl)
-
-pub returns-then-written : goal.returns-then-written
-returns-then-written c =
-    let a = c.rows_at-r in
-    let g = c.give_row in
-    rw c.if-written.true (asks_given _ _ write_row 8 _ _ (search rules) (search rules) _ _ _ _ _ _ _ a.ensures g.ensures.0 g.ensures.1 (search rules) (λ s. s.writes_are))
+pub returns-in_err-uses : goal.returns-in_err-uses
+returns-in_err-uses c =
+    let p = err_from_is_err_and c.from_residual.result c.from_residual.ensures.1 in
+    rw (p.1, p.2) (asks_sought _ _ (row_of c.args.written) 8 _ _ (search rules) (search rules) _ _ c.rows_at.ensures _ c.in_err-uses.was)
 
 pub returns : goal.returns
 returns c =
-    let a = c.rows_at-r in
-    let g = c.give_row-2 in
-    rw c.if-written.false (asks_given _ _ read_row 8 _ _ (search rules) (search rules) _ _ _ _ _ _ _ a.ensures g.ensures.0 g.ensures.1 (search rules) (λ s. s.reads_are))
+    let s = shown _ _ _ _ c.rows_at.ensures _ c.in_ok-uses.was in
+    asks_given _ _ (row_of c.args.written) 8 _ _ (search rules) (search rules) _ _ _ _ (search rules) s (units_asked _ _ c.args.units.now _ _ _ s c.args.written _ (c.copy_from_slice.ensures.after ∙ c.asked.ensures))
