@@ -3,14 +3,18 @@
 use mathlib.Core.Path.{◌≡◌, refl, sym, ap, subst, ◌∙◌}
 use mathlib.Core.Logic.{◌⊎◌, inl, inr}
 use mathlib.Core.Bool.{Bool, true, false, true≢false}
-use mathlib.Core.List.{List, [], ◌∷◌, map}
+use mathlib.Core.List.{List, [], ◌∷◌}
 use Prim.Native.Nat.{ℕ, zero, suc, ◌≤◌, ◌<◌}
 use native.Mathlib.Omega.{arith}
-use lib.ListN.{length, get_or, length-map}
+use lib.ListN.{length, get_or, take}
+use lib.Dec.{ltb}
+use lib.Seq.{get_or-take}
+use borrow.Author.Tests.{lt-ltb, le-ltb}
+use Rattle.std.specs.Prelude.{Some, None}
 use Rattle.rows.proofs.Rows.{lt_or_ge}
-use Rattle.fields.specs.Pick.{pick, pick_yes, pick_no}
+use Rattle.fields.specs.Pick.{pick, pick_yes, pick_no, ◌and◌}
 use Rattle.slots.specs.declared.Slot.{Slot}
-use Rattle.slots.specs.Slots.{no_slot, first_of}
+use Rattle.slots.specs.Slots.{no_slot, first_of, first_passing}
 
 -- Inside a list it does not matter what would stand past its end.
 pub inside_same : (ts : List Slot) (k : ℕ) (t u : Slot) → k < length ts → get_or ts k t ≡ get_or ts k u
@@ -18,19 +22,10 @@ inside_same [] k t u h = absurd (omega arith)
 inside_same (x ∷ ts) zero t u h = refl
 inside_same (x ∷ ts) (suc k) t u h = inside_same ts k t u (omega arith)
 
--- A list of slots is as long as the array that it is written out to.
-pub mapped_length : (X : Type 0) (f : Slot → X) (ts : List Slot) (n : ℕ) → length (map f ts) ≡ n → length ts ≡ n
-mapped_length X f ts n e = sym (length-map ts f) ∙ e
-
--- A turn of the walk: what is left from number k down comes to what was left before the turn.
-pub first_turn : (p : ℕ → Slot → Bool) (ts : List Slot) (k found w : ℕ) → first_of p ts (suc k) found ≡ w → first_of p ts k (pick (p k (get_or ts k no_slot)) k found) ≡ w
-unfolding first_of
-first_turn p ts k found w before = before
-
--- At 0 the walk has come to what is found.
-pub first_end : (p : ℕ → Slot → Bool) (ts : List Slot) (found w : ℕ) → first_of p ts 0 found ≡ w → found ≡ w
-unfolding first_of
-first_end p ts found w before = before
+pub and_false : (a : Bool) → (a and false) ≡ false
+unfolding pick
+and_false true = refl
+and_false false = refl
 
 module _ (p : ℕ → Slot → Bool) (ts : List Slot) where
   -- The slot of a number passes; no slot of a smaller number does.
@@ -111,3 +106,23 @@ module _ (p : ℕ → Slot → Bool) (ts : List Slot) where
       go : (r : ℕ) → Came n n r → r ≡ n
       go r (inl (e, none)) = e
       go r (inr (l, t, none)) = absurd (clash r t (all r l))
+
+  -- The same of the answer.
+  pub passing_is : (n k : ℕ) → k < n → Passes k → NoneBelow k → first_passing p ts n ≡ Some k
+  unfolding first_passing
+  passing_is n k h t none = let e = first_is n k h t none in rw e (pick_yes _ _ _ (lt-ltb _ _ h))
+
+  pub passing_none : (n : ℕ) → NoneBelow n → first_passing p ts n ≡ None
+  unfolding first_passing
+  passing_none n all = let e = first_none n all in rw e (pick_no _ _ _ (le-ltb n n (omega arith)))
+
+-- What stands behind the first n slots does not matter.
+pub passing_front : (p : ℕ → Slot → Bool) (ts : List Slot) (n : ℕ) → first_passing p (take n ts) n ≡ first_passing p ts n
+unfolding first_passing first_of
+passing_front p ts n = ap (λ (r : ℕ). pick (ltb r n) (Some r) None) (same n n (omega arith))
+  where
+    same : (i found : ℕ) → i ≤ n → first_of p (take n ts) i found ≡ first_of p ts i found
+    same zero found h = refl
+    same (suc i) found h =
+        same i (pick (p i (get_or (take n ts) i no_slot)) i found) (omega arith)
+        ∙ ap (λ (t : Slot). first_of p ts i (pick (p i t) i found)) (get_or-take n ts i no_slot (omega arith))

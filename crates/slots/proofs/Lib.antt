@@ -1,4 +1,3 @@
 pub mod Laws
 mod Lent
-pub mod Marks
-pub mod Pages
+pub mod Walking

@@ -1,13 +1,7 @@
--- `slots::walk` meets its contract. What is left of the walk, from number i down, comes to what the whole walk comes to.
-use Rattle.std.proofs.Common.{◌≡◌, ◌≤◌, ◌+◌}
-use Rattle.slots.specs.Slots.{passes, first_of}
+-- `slots::walk` goes through the words of the rows in order: of the slots of those before word w none passes.
+use Rattle.std.proofs.Common.{◌*◌}
+use Rattle.slots.proofs.Walking.{Missed}
 use Rattle.slots.proofs.walk.Given as goal
 
-abbrev pub invariant-loop-i : goal.invariant-loop-i
-invariant-loop-i l = record {
-  within : l.i ≤ l.n;
-  left : first_of (λ i. passes l.s l.free l.chosen (l.base + i)) l.slots l.i l.found ≡ first_of (λ i. passes l.s l.free l.chosen (l.base + i)) l.slots l.n l.n;
-}
-
-abbrev pub decreases-loop-i : goal.decreases-loop-i
-decreases-loop-i l = l.i
+abbrev pub invariant-loop-w : goal.invariant-loop-w
+invariant-loop-w l = Missed l.s l.free l.chosen l.slots (l.w * 64)
