@@ -31,7 +31,7 @@ pub fn insert(words: &mut [u64], base: usize, n: usize)
     words[base + n / 64] |= mask(n % 64);
 }
 
-// The row at to becomes its union with the row at b of another slice.
+// The row at to becomes its union with the row at b of another slice. The two are not zipped, as no contract speaks of what is written through a zip.
 pub fn union_from(words: &mut [u64], to: usize, from: &[u64], b: usize, n: usize)
     requires { (to + n ≤ length words.old) × (b + n ≤ length from.now) }
     ensures { words.new ≡ put words.old to (or_row (row words.old to n) (row from.now b n)) }
@@ -61,7 +61,7 @@ pub fn clear(words: &mut [u64], from: usize, n: usize)
     words[from..from + n].fill(0);
 }
 
-// Do the row at a of x and the row at b of y, of n words each, hold the same?
+// Do the row at a of x and the row at b of y, of n words each, hold the same? They are compared here, as `==` of slices takes half as long again for a short row.
 pub fn same_row(x: &[u64], a: usize, y: &[u64], b: usize, n: usize) -> bool
     requires { (a + n ≤ length x.now) × (b + n ≤ length y.now) }
     ensures { result ≡ same_row (row x.now a n) (row y.now b n) }
