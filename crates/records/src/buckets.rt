@@ -10,6 +10,7 @@ ghost use Rattle.records.specs.Mirror.{bucket_of, Low, Chained};
 use crate::notes::Notes;
 
 // A unit as one word.
+#[tactic(auto, unfolding(fields::specs::Record::word_of))]
 pub fn word_of(shape: u8, id: u16, offset: u16) -> u32
     requires { id < 256 }
     ensures { result ≡ word_of one shape id offset }
@@ -18,6 +19,7 @@ pub fn word_of(shape: u8, id: u16, offset: u16) -> u32
 }
 
 // Lanes of one storage and storages of one lane fall into different buckets.
+#[tactic(auto, unfolding(crate::specs::Mirror::bucket_of))]
 pub fn bucket_of(word: u32) -> usize
     ensures { (result ≡ bucket_of word) × (result < 256) }
 {

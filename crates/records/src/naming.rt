@@ -13,6 +13,7 @@ use crate::notes::Notes;
 use crate::reader::Reader;
 
 // A storage's id is declared.
+#[tactic(auto, using(fields::specs::Pick::tests))]
 fn declared(ids: &[u64], id: u16) -> bool
     requires { length ids.now ≡ 4 }
     ensures { result ≡ (ltb id 256 and member_at ids.now 0 id) }
@@ -21,6 +22,7 @@ fn declared(ids: &[u64], id: u16) -> bool
 }
 
 // One unit number more, among so many units.
+#[tactic(auto, using(crate::proofs::Held::reader_number))]
 fn after_number(c: Reader, units: usize, named: usize) -> Reader
     ensures { (s : State) (us : List ℕ) (n : ℕ) → c ≡ reader_of s → length us ≡ units → named ≡ length s.numbers + 1 → result ≡ reader_of (with_number us n s) }
 {

@@ -24,6 +24,7 @@ pub struct Pending {
     pub targets: u16,
 }
 
+#[tactic(auto, unfolding(fields::specs::Table::row_word, fields::specs::Pick::times, fields::specs::Fields::missing, crate::specs::Step::last_field, crate::specs::Mirror::seen))]
 pub fn nothing_open() -> Pending
     ensures { result ≡ pending_of nothing }
 {
@@ -42,6 +43,7 @@ pub fn nothing_open() -> Pending
 // The highest byte of a table's entry says how many operands are missing at first.
 const ABOVE: u64 = 0x0100_0000_0000_0000;
 
+#[tactic(auto, using(crate::proofs::Pendings::open_of))]
 pub fn open_at(at: usize, entry: u64, least: u16, most: u16) -> Pending
     ensures { (row : List Field) → entry ≡ entry_of row → length row ≤ 6 → result ≡ pending_of (opened at row least most) }
 {
@@ -58,6 +60,7 @@ pub fn open_at(at: usize, entry: u64, least: u16, most: u16) -> Pending
 }
 
 // How many operands the field of a number has: what the last field has, and none above it.
+#[tactic(auto, using(fields::specs::Pick::tests))]
 fn seen_in(o: Pending, field: u8) -> u8
     ensures { result ≡ pick (eqb field o.field) o.seen 0 }
 {
@@ -65,6 +68,7 @@ fn seen_in(o: Pending, field: u8) -> u8
 }
 
 // The operand at the front of a tail fits.
+#[tactic(auto, using(crate::proofs::Pendings::fits_in))]
 pub fn operand_fits_in(o: Pending, tail: &[u8]) -> bool
     requires { 7 ≤ length tail.now }
     ensures { (x : Opened) → o ≡ pending_of x → Rising x.given → result ≡ operand_fits x.row x.given (operand_in tail.now) }
@@ -83,6 +87,7 @@ pub fn operand_fits_in(o: Pending, tail: &[u8]) -> bool
 
 // What is missing after an operand of the field `b`, which had `n` before: the one that must be there is missing no more, and of none or two the
 // first makes the second missing.
+#[tactic(auto, unfolding(fields::specs::Table::lacks_in, fields::specs::Pick::pick))]
 fn lacks_after(lacks: u8, b: u8, n: u8) -> u8
     requires { (lacks ≤ 6) × (n ≤ 16) }
     ensures { result ≡ lacks + lacks_in b (n + 1) - lacks_in b n }
@@ -115,6 +120,7 @@ pub fn with_given(o: Pending, field: u8) -> Pending
 }
 
 // One target more.
+#[tactic(auto, using(crate::proofs::Pendings::target_of))]
 pub fn with_target(o: Pending) -> Pending
     requires { o.targets < o.most }
     ensures { (x : Opened) → o ≡ pending_of x → result ≡ pending_of (with_target x) }
@@ -126,6 +132,7 @@ pub fn with_target(o: Pending) -> Pending
 }
 
 // No operand and no target is missing.
+#[tactic(auto, using(crate::proofs::Pendings::finished_of, crate::proofs::Pendings::finished_not))]
 pub fn is_finished(o: Pending) -> bool
     ensures { (x : Opened) → o ≡ pending_of x → result ≡ finished x }
 {

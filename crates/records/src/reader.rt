@@ -44,6 +44,7 @@ pub fn start_reading() -> Reader
 }
 
 // A stage, and what is open in it.
+#[tactic(auto, using(crate::proofs::Held::reader_opened))]
 pub fn with_now(c: Reader, stage: Stage, now: Pending) -> Reader
     ensures { (result.units ≡ c.units) × (result.named ≡ c.named)
         × ((s : State) (n : ℕ) (x : Opened) → c ≡ reader_of s → stage ≡ stage_of n → now ≡ pending_of x → result ≡ reader_of (with_opened n x s)) }

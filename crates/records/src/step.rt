@@ -33,18 +33,21 @@ fn take_header(c: Reader, tail: &[u8], at: usize) -> Result<Reader, Refusal>
 }
 
 // A block or a function may be left: the blocks begin here, or the last one has its terminator.
+#[tactic(auto, using(crate::proofs::Held::between, crate::proofs::Held::not_between))]
 fn between_blocks(stage: Stage) -> bool
     ensures { (n : ℕ) → stage ≡ stage_of n → result ≡ (eqb n in_abi or eqb n after_block) }
 {
     matches!(stage, Stage::InAbi | Stage::AfterBlock)
 }
 
+#[tactic(auto, using(crate::proofs::Held::same_stage, fields::specs::Pick::tests))]
 fn function_follows(stage: Stage) -> bool
     ensures { (n : ℕ) → stage ≡ stage_of n → result ≡ (eqb n in_storages or (eqb n in_abi or eqb n after_block)) }
 {
     stage == Stage::InStorages || between_blocks(stage)
 }
 
+#[tactic(auto, using(crate::proofs::Held::reader_function))]
 fn after_function(c: Reader) -> Reader
     requires { c.functions < 64 }
     ensures { (s : State) (n : ℕ) → c ≡ reader_of s → result ≡ reader_of (with_function n s) }
@@ -59,6 +62,7 @@ fn after_function(c: Reader) -> Reader
 }
 
 // One of these blocks has this id. The loop has no early way out, so that it runs on several ids at a time.
+#[tactic(auto, using(crate::proofs::Lists::look_hit, crate::proofs::Lists::look_miss), unfolding(fields::specs::Pick::has))]
 fn among(blocks: &[u16], id: u16) -> bool
     ensures { result ≡ has id blocks.now }
 {
@@ -71,6 +75,7 @@ fn among(blocks: &[u16], id: u16) -> bool
     hit
 }
 
+#[tactic(auto, using(crate::proofs::Held::reader_block))]
 fn after_block(c: Reader, at: usize) -> Reader
     requires { c.blocks < 128 }
     ensures { (s : State) (id : ℕ) → c ≡ reader_of s → result ≡ reader_of (with_block at id s) }
@@ -133,6 +138,7 @@ fn take_end(c: Reader, at: usize) -> Result<Reader, Refusal>
 }
 
 // A target goes to what is open; any other record that is no operand finds it finished.
+#[tactic(auto, using(crate::proofs::TenKinds::belongs_target, crate::proofs::TenKinds::belongs_not, fields::specs::Pick::tests))]
 fn goes_on(o: Pending, kind: u8) -> bool
     ensures { (x : Opened) (t : List ℕ) → o ≡ pending_of x → u8_at t 0 ≡ kind → kind < 10 → (kind ≡ 6 → ⊥) → result ≡ (belongs (record_at one t) or finished x) }
 {
@@ -140,6 +146,7 @@ fn goes_on(o: Pending, kind: u8) -> bool
 }
 
 // A record that would leave a block without its terminator.
+#[tactic(auto, using(crate::proofs::Held::same_stage, crate::proofs::TenKinds::leaves_one, crate::proofs::TenKinds::leaves_not, fields::specs::Pick::tests))]
 fn cuts(stage: Stage, kind: u8) -> bool
     ensures { (t : List ℕ) (n : ℕ) → u8_at t 0 ≡ kind → kind < 10 → stage ≡ stage_of n → result ≡ (leaves (record_at one t) and eqb n in_block) }
 {

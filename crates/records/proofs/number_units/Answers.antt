@@ -3,7 +3,7 @@
 use mathlib.Core.Path.{◌∙◌}
 use borrow.Author.Rules.{rules}
 use lib.ListN.{length}
-use Rattle.records.proofs.Outcomes.{cleared, numbering_long, numbering_units, numbering_refused}
+use Rattle.records.proofs.Outcomes.{cleared, numbering_long, numbering_refused}
 use Rattle.records.proofs.number_units.Goals as goal
 
 pub returns-then-file-gt16384 : goal.returns-then-file-gt16384
@@ -12,9 +12,6 @@ returns-then-file-gt16384 c = numbering_long _ _ _ _ _ c.if-file-gt16384.true c.
 pub walk-requires : goal.walk-requires
 walk-requires c =
     (c.if-file-gt16384.false, c.clear.ensures ∙ cleared _ c.requires.0, c.requires.1, c.blank.ensures)
-
-pub returns-in-Ok : goal.returns-in-Ok
-returns-in-Ok c = numbering_units _ _ _ _ _ c.walk.ensures _ c.in-Ok.is
 
 pub returns-in-Err : goal.returns-in-Err
 returns-in-Err c =

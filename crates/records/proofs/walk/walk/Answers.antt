@@ -43,17 +43,6 @@ returns-in_err-c c =
     rw (p.1, p.2) (reading_refused _ _ _ _ l.reading l.short _ _ _ _ c.tail_of-tail.ensures.0 c.loop-at-test.true _ (whole_kind _ _ _ refl w.2 (λ z. omega (arith, w.0)) w.1) _ _
     (c.step_on.ensures.comes l.reading.state l.reading.is l.reading.kept refl l.reading.holds) _ c.in_err-c.was)
 
-pub overflow_add-at : goal.overflow_add-at
-overflow_add-at c =
-    let l = c.loop-at.invariant in
-    let w = c.in-Some.ensures.whole in
-    record { fits = omega (arith, l.short, w.1, c.tail_of-tail.ensures.1) }
-
-pub loop-at-smaller : goal.loop-at-smaller
-loop-at-smaller c =
-    let w = c.in-Some.ensures.whole in
-    omega (arith, w.1, c.tail_of-tail.ensures.1, w.0)
-
 pub loop-at-preserved : goal.loop-at-preserved
 unfolding u8_at
 loop-at-preserved c =

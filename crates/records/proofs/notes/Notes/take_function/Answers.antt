@@ -9,9 +9,6 @@ use Rattle.records.proofs.Held.{stage_as, functions_of, entry_there, entry_none,
 use Rattle.records.proofs.Comings.{comes_order, comes_admit, function_again, function_limit, function_next}
 use Rattle.records.proofs.notes.Notes.take_function.Goals as goal
 
-pub overflow_cast-number : goal.overflow_cast-number
-overflow_cast-number c = omega (arith, c.type_inv.tail 1)
-
 pub returns-then-not-function_follows-clause-comes : goal.returns-then-not-function_follows-clause-comes
 returns-then-not-function_follows-clause-comes c = λ s e h. comes_order s _ (function (u8_at _ 1)) _ (sym (c.function_follows.ensures _ (stage_as _ s e)) ∙ c.if-not-function_follows.true)
 

@@ -2,7 +2,6 @@
 -- Each other way out is the refusal of that test.
 use mathlib.Core.Path.{◌≡◌, sym, ◌∙◌}
 use mathlib.Core.Bool.{true}
-use native.Mathlib.Omega.{arith}
 use Rattle.fields.specs.Record.{operand, operand_in, u8_at}
 use Rattle.records.specs.Step.{with_given, operand_fits}
 use Rattle.records.proofs.Counts.{field_late, field_inside}
@@ -20,9 +19,6 @@ returns-then-o-ne0-clause-comes c =
           (sym (w.operand_fits_in.ensures s.now (now_of _ s e) kept.rising) ∙ w.if-not-operand_fits_in.true)
     ]
 
-pub admit_immediate-requires : goal.admit_immediate-requires
-admit_immediate-requires c = omega (arith, c.with_now-next.ensures.1, c.requires.1.ready.room)
-
 pub returns-then-shape-eq0-clause-comes : goal.returns-then-shape-eq0-clause-comes
 unfolding operand_in u8_at
 returns-then-shape-eq0-clause-comes c =
@@ -34,11 +30,6 @@ returns-then-shape-eq0-clause-comes c =
     comes_admit s _ (operand x) _ _ (targets_is _ s e c.if-o-ne0.false) fits
     (operand_none s _ x _ _ c.if-shape-eq0.true
     (c.admit_immediate.ensures.comes _ on (holds_opened s _ h _ _)))
-
-pub admit_unit-requires : goal.admit_unit-requires
-admit_unit-requires c =
-    let r = c.requires.1.ready in
-    record { many_words = r.many_words; low = r.low; units_most = omega (arith, c.with_now-next.ensures.0, r.units_most); room = omega (arith, c.with_now-next.ensures.1, r.room) }
 
 pub returns-clause-comes : goal.returns-clause-comes
 unfolding operand_in u8_at
