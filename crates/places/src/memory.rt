@@ -1,5 +1,5 @@
 // Room in the two memories: whether it is clear, the taking of it, and how far up all is taken.
-ghost use Rattle.std.specs.Prelude.{◌≡◌, length};
+ghost use Rattle.std.specs.Prelude.{◌≡◌, ◌≤◌, length};
 ghost use Rattle.places.specs.Memory.{clear_room, reserve, Solid};
 ghost use Rattle.places.specs.Legal.{Small, Inside};
 
@@ -11,6 +11,44 @@ use storages::{Room, Space};
 pub struct Floor {
     pub app: usize,
     pub work: usize,
+}
+
+// The two memories as far as they are taken: the occupancy maps of application and work RAM, and the floor of each.
+#[derive(Drop)]
+pub struct Memory<'a> {
+    pub app: &'a mut [u8],
+    pub work: &'a mut [u8],
+    pub floor: Floor,
+    pub ghost app_short: { length app.now ≤ 256 },
+    pub ghost work_short: { length work.now ≤ 512 },
+    pub ghost solid: { Solid floor app.now work.now },
+}
+
+impl Memory<'_> {
+    // Takes the room.
+    pub fn take(&mut self, room: Room)
+        requires { Inside (length self.old.app.now) (length self.old.work.now) room }
+        ensures { (record { app = self.new.app.now; wrk = self.new.work.now }) ≡ reserve room (record { app = self.old.app.now; wrk = self.old.work.now }) }
+    {
+        take_room(self.app, self.work, room);
+    }
+
+    // The floor up to the first byte that is clear now.
+    fn raised(&self) -> Floor
+        ensures { Solid result self.now.app.now self.now.work.now }
+    {
+        Floor {
+            app: next_clear(self.app, self.floor.app),
+            work: next_clear(self.work, self.floor.work),
+        }
+    }
+
+    // Raises the floor up to the first byte that is clear now.
+    pub fn raise(&mut self)
+        ensures { (self.new.app.now ≡ self.old.app.now) × (self.new.work.now ≡ self.old.work.now) }
+    {
+        self.floor = self.raised();
+    }
 }
 
 // Is the room inside its memory, and clear?
