@@ -25,6 +25,14 @@ pub struct Memory<'a> {
 }
 
 impl Memory<'_> {
+    // Is the room inside its memory, and clear?
+    pub fn is_clear(&self, room: Room) -> bool
+        requires { Small room }
+        ensures { result ≡ clear_room (record { app = self.now.app.now; wrk = self.now.work.now }) room }
+    {
+        is_clear(self.app, self.work, room)
+    }
+
     // Takes the room.
     pub fn take(&mut self, room: Room)
         requires { Inside (length self.old.app.now) (length self.old.work.now) room }

@@ -1,10 +1,9 @@
 -- What is taken stays taken, so the floor is still one; and the maps stay as long as they were.
-use mathlib.Core.Path.{◌≡◌, sym, ap, subst, ◌∙◌}
-use mathlib.Core.List.{List}
+use mathlib.Core.Path.{sym, ap, subst, ◌∙◌}
 use Prim.Native.Nat.{ℕ, ◌≤◌}
 use lib.ListN.{length}
 use Rattle.storages.specs.declared.Space.TheVariants.{App, Work}
-use Rattle.places.specs.Memory.{Maps, map_of, reserve, Solid}
+use Rattle.places.specs.Memory.{Maps, Solid}
 use Rattle.places.proofs.Rooms.{reserve_solid, reserve_length}
 use Rattle.places.proofs.memory.Memory.take.Goals as goal
 
