@@ -60,6 +60,7 @@ impl Memory<'_> {
 }
 
 // Is the room inside its memory, and clear?
+#[tactic(auto, unfolding(crate::specs::Memory::clear_room))]
 pub fn is_clear(app: &[u8], work: &[u8], room: Room) -> bool
     requires { Small room }
     ensures { result ≡ clear_room (record { app = app.now; wrk = work.now }) room }
@@ -67,21 +68,30 @@ pub fn is_clear(app: &[u8], work: &[u8], room: Room) -> bool
     match room {
         Room::Nowhere => true,
         Room::Bytes {
-            space,
+            space: Space::App,
             offset,
             count,
-        } => match space {
-            Space::App => clear_bytes(app, offset as usize, count as usize),
-            Space::Work => clear_bytes(work, offset as usize, count as usize),
-        },
-        Room::OneBit { space, offset, bit } => match space {
-            Space::App => clear_bit(app, offset as usize, bit as usize),
-            Space::Work => clear_bit(work, offset as usize, bit as usize),
-        },
+        } => clear_bytes(app, offset as usize, count as usize),
+        Room::Bytes {
+            space: Space::Work,
+            offset,
+            count,
+        } => clear_bytes(work, offset as usize, count as usize),
+        Room::OneBit {
+            space: Space::App,
+            offset,
+            bit,
+        } => clear_bit(app, offset as usize, bit as usize),
+        Room::OneBit {
+            space: Space::Work,
+            offset,
+            bit,
+        } => clear_bit(work, offset as usize, bit as usize),
     }
 }
 
 // Takes the room.
+#[tactic(auto, unfolding(crate::specs::Memory::reserve))]
 pub fn take_room(app: &mut [u8], work: &mut [u8], room: Room)
     requires { Inside (length app.old) (length work.old) room }
     ensures { (record { app = app.new; wrk = work.new }) ≡ reserve room (record { app = app.old; wrk = work.old }) }
@@ -89,17 +99,25 @@ pub fn take_room(app: &mut [u8], work: &mut [u8], room: Room)
     match room {
         Room::Nowhere => {}
         Room::Bytes {
-            space,
+            space: Space::App,
             offset,
             count,
-        } => match space {
-            Space::App => take_bytes(app, offset as usize, count as usize),
-            Space::Work => take_bytes(work, offset as usize, count as usize),
-        },
-        Room::OneBit { space, offset, bit } => match space {
-            Space::App => take_bit(app, offset as usize, bit as usize),
-            Space::Work => take_bit(work, offset as usize, bit as usize),
-        },
+        } => take_bytes(app, offset as usize, count as usize),
+        Room::Bytes {
+            space: Space::Work,
+            offset,
+            count,
+        } => take_bytes(work, offset as usize, count as usize),
+        Room::OneBit {
+            space: Space::App,
+            offset,
+            bit,
+        } => take_bit(app, offset as usize, bit as usize),
+        Room::OneBit {
+            space: Space::Work,
+            offset,
+            bit,
+        } => take_bit(work, offset as usize, bit as usize),
     }
 }
 
