@@ -22,9 +22,7 @@ use Rattle.storages.specs.File.{opens_storage, storages_by, declared}
 use Rattle.storages.proofs.Declared.{opens_inside, opened as opened_at}
 use Rattle.maps.specs.Maps.{TakenBelow}
 use Rattle.slots.specs.declared.Slot.{Slot}
-use Rattle.slots.specs.declared.Page.{Page}
-use Rattle.slots.specs.Slots.{no_page, slots_in, opened}
-use Rattle.slots.proofs.Pages.{Full, full_none, full_put, number_put}
+use Rattle.slots.specs.Slots.{opened}
 use Rattle.places.specs.declared.memory.Floor.{Floor}
 use Rattle.places.specs.Memory.{Solid}
 use Rattle.places.specs.Legal.{FixedSmall}
@@ -46,25 +44,19 @@ told graph copies hi = record { meets = λ i j. member_at graph (i * 4) j; copie
 told_tells : (graph copies : List ℕ) (hi : ℕ) → Tells (told graph copies hi) graph copies
 told_tells graph copies hi = record { meeting = λ i j a b. refl; copying = λ i j a b. refl }
 
--- The loop's invariant: the arrays and the pages of slots keep their lengths, the floor is solid, every record ahead fits and there is an entry for it, and placing
+-- The loop's invariant: the maps keep their lengths, the floor is solid, every record ahead fits and there is an entry for it, and placing
 -- comes to the same from here.
-pub record Going (file graph copies app₀ wrk₀ app wrk : List ℕ) (list : List Page) (n : ℕ) (ids kin numbers out : List ℕ) (at i : ℕ) (floor : Floor) : Type 0 where
+pub record Going (file graph copies app₀ wrk₀ app wrk : List ℕ) (list : List Slot) (n : ℕ) (ids kin numbers out : List ℕ) (at i : ℕ) (floor : Floor) : Type 0 where
   pub inside : at ≤ length file
   pub app_long : length app ≡ length app₀
   pub wrk_long : length wrk ≡ length wrk₀
-  pub ids_long : length ids ≡ 256
-  pub kin_long : length kin ≡ 512
-  pub numbers_long : length numbers ≡ 256
-  pub out_long : length out ≡ 2048
-  pub pages : length list ≡ 16
-  pub full : Full list
   pub solid : Solid floor app wrk
   pub fuel : ℕ
   pub enough : length file ≤ at + fuel
   pub fits : All (λ x. R.storage_fits one x ≡ true) (storages_by fuel (drop at file))
   pub few : i + length (storages_by fuel (drop at file)) ≤ 256
   pub held : (g : Given) → Tells g graph copies → g.lo ≡ 0 → g.hi ≡ length app₀
-      → (x : State) × Held x app wrk (slots_in list) n ids kin numbers out i
+      → (x : State) × Held x app wrk list n ids kin numbers out i
       × (place_from g (map stored (storages_by fuel (drop at file))) x ≡ place_from g (map stored (declared file)) (begun app₀ wrk₀))
 
 -- A floor of the words is one of the state that they stand for, and the other way.
@@ -73,12 +65,8 @@ same_solid f app wrk app' wrk' p q h = (subst (λ (m : List ℕ). TakenBelow m f
 
 -- ---- The start
 
-pub clear_long : (out : List ℕ) → out ≡ laid 2048 [] [] → length out ≡ 2048
-unfolding laid
-clear_long out e = ap length e
-
-module _ (file graph copies app wrk : List ℕ) (list : List Page) (ids kin numbers out : List ℕ) where
-  begun_held : kin ≡ replicate 512 0 → out ≡ laid 2048 [] [] → Held (begun app wrk) app wrk (slots_in list) 0 ids kin numbers out 0
+module _ (file graph copies app wrk : List ℕ) (list : List Slot) (ids kin numbers out : List ℕ) where
+  begun_held : kin ≡ replicate 512 0 → out ≡ laid 2048 [] [] → Held (begun app wrk) app wrk list 0 ids kin numbers out 0
   unfolding records_of
   begun_held clear e = record {
     app_is = refl;
@@ -98,19 +86,13 @@ module _ (file graph copies app wrk : List ℕ) (list : List Page) (ids kin numb
     out_is = e;
   }
 
-  pub going_start : 7 ≤ length file → Fit file → length ids ≡ 256 → kin ≡ replicate 512 0 → length numbers ≡ 256 → out ≡ laid 2048 [] [] → list ≡ replicate 16 no_page
+  pub going_start : 7 ≤ length file → Fit file → kin ≡ replicate 512 0 → out ≡ laid 2048 [] []
       → Going file graph copies app wrk app wrk list 0 ids kin numbers out 7 0 (record { app = 0; work = 0 })
   unfolding declared
-  going_start h fit li clear ln e none = record {
+  going_start h fit clear e = record {
     inside = h;
     app_long = refl;
     wrk_long = refl;
-    ids_long = li;
-    kin_long = ap length clear;
-    numbers_long = ln;
-    out_long = clear_long out e;
-    pages = ap length none;
-    full = subst Full (sym none) (full_none 16);
     solid = (λ j l. absurd (not-suc-le-zero l), λ j l. absurd (not-suc-le-zero l));
     fuel = length file;
     enough = omega arith;
@@ -127,32 +109,15 @@ Went (Ok None) = Unit {0}
 Went (Ok (Some p)) = Unit {0}
 Went (Err r) = ⊥
 
-module _ (list : List Page) (n : ℕ) (z : Storage) (v : Result (Option Placement) Refusal) (list' : List Page) (n' : ℕ) where
+module _ (list : List Slot) (n : ℕ) (z : Storage) (v : Result (Option Placement) Refusal) (list' : List Slot) (n' : ℕ) where
   abbrev pub Follows : Type 0
-  Follows = Went v × (slots_in list' ≡ list_after (slots_in list) n z v) × (n' ≡ count_after n v) × (length list' ≡ 16) × Full list'
+  Follows = Went v × (list' ≡ list_after list n z v) × (n' ≡ count_after n v)
 
-  module _ (pages : length list ≡ 16) (full : Full list) where
-    pub placed_follows : v ≡ Ok None → list' ≡ list → n' ≡ n → Follows
-    placed_follows e q m = (
-      subst Went (sym e) tt,
-      ap slots_in q ∙ sym (ap (list_after (slots_in list) n z) e),
-      m ∙ sym (ap (count_after n) e),
-      ap length q ∙ pages,
-      subst Full (sym q) full,
-    )
+  pub placed_follows : v ≡ Ok None → list' ≡ list → n' ≡ n → Follows
+  placed_follows e q m = (subst Went (sym e) tt, q ∙ sym (ap (list_after list n z) e), m ∙ sym (ap (count_after n) e))
 
-    -- The slot that the storage opened is the one that was put behind the others, into its page.
-    pub opened_follows : n < 256 → (p : Placement) (y : Slot) (d page : Page) → v ≡ Ok (Some p) → y ≡ opened z p
-        → page ≡ record { slots = set (get_or list (n / 16) d).slots (n % 16) y } → list' ≡ set list (n / 16) page → n' ≡ n + 1 → Follows
-    opened_follows l p y d page e b w q m =
-        let here : n < length list * 16 = omega arith in
-        let put = q ∙ ap (set list (n / 16)) w in (
-          subst Went (sym e) tt,
-          ap slots_in put ∙ number_put list n d y full here ∙ ap (set (slots_in list) n) b ∙ sym (ap (list_after (slots_in list) n z) e),
-          m ∙ sym (ap (count_after n) e),
-          ap length q ∙ length-set list (n / 16) page ∙ pages,
-          subst Full (sym put) (full_put list (n / 16) (n % 16) d y full),
-        )
+  pub opened_follows : (p : Placement) → v ≡ Ok (Some p) → list' ≡ set list n (opened z p) → n' ≡ n + 1 → Follows
+  opened_follows p e q m = (subst Went (sym e) tt, q ∙ sym (ap (list_after list n z) e), m ∙ sym (ap (count_after n) e))
 
 -- ---- The record at the front
 
@@ -164,10 +129,10 @@ front_cons file at zero h e o = absurd (omega (arith, opens_inside file at h o))
 front_cons file at (suc k) h e o =
     (k, omega arith, pick_yes (opens_storage (drop at file)) _ _ o ∙ ap (λ (t : List ℕ). R.storage_in (drop at file) ∷ storages_by k t) (drop-drop 16 at file))
 
-module _ {file graph copies app₀ wrk₀ app wrk : List ℕ} {list : List Page} {n : ℕ} {ids kin numbers out : List ℕ} {at i : ℕ} {floor : Floor}
+module _ {file graph copies app₀ wrk₀ app wrk : List ℕ} {list : List Slot} {n : ℕ} {ids kin numbers out : List ℕ} {at i : ℕ} {floor : Floor}
     (s : Going file graph copies app₀ wrk₀ app wrk list n ids kin numbers out at i floor) where
   -- The words stand for a state, since they tell what is given themselves.
-  pub going_held : (x : State) × Held x app wrk (slots_in list) n ids kin numbers out i
+  pub going_held : (x : State) × Held x app wrk list n ids kin numbers out i
   going_held = let h = s.held (told graph copies (length app₀)) (told_tells graph copies (length app₀)) refl refl in (h.0, h.1)
 
   module _ (t : List ℕ) (z : Storage) (et : t ≡ drop at file) (ez : z ≡ stored (R.storage_in t)) (o : opens_storage (drop at file) ≡ true) where
@@ -187,30 +152,30 @@ module _ {file graph copies app₀ wrk₀ app wrk : List ℕ} {list : List Page}
     front_few = omega (arith, front_fits.0, going_held.1.kept.few)
 
     module _ (v : Result (Option Placement) Refusal) (app' wrk' ids' kin' numbers' out' : List ℕ)
-        (turn : (g : Given) (x : State) → Tells g graph copies → g.lo ≡ 0 → g.hi ≡ length app → Held x app wrk (slots_in list) n ids kin numbers out i
-        → TurnedBy (step g z x) v app' wrk' (list_after (slots_in list) n z v) (count_after n v) ids' kin' numbers' out' (i + 1)) where
+        (turn : (g : Given) (x : State) → Tells g graph copies → g.lo ≡ 0 → g.hi ≡ length app → Held x app wrk list n ids kin numbers out i
+        → TurnedBy (step g z x) v app' wrk' (list_after list n z v) (count_after n v) ids' kin' numbers' out' (i + 1)) where
       pub going_refused : (r : Refusal) → v ≡ Err r → (g : Given) → Tells g graph copies → g.lo ≡ 0 → g.hi ≡ length app₀
           → place_from g (map stored (declared file)) (begun app₀ wrk₀) ≡ refused r
       going_refused r e g t lo hi =
           let k = front_cons file at s.fuel s.inside s.enough o in
           let h = s.held g t lo hi in
-          let q = subst (λ (u : Result (Option Placement) Refusal). TurnedBy (step g z h.0) u app' wrk' (list_after (slots_in list) n z u) (count_after n u) ids' kin' numbers' out' (i + 1)) e (turn g h.0 t lo (hi ∙ sym s.app_long) h.1) in
+          let q = subst (λ (u : Result (Option Placement) Refusal). TurnedBy (step g z h.0) u app' wrk' (list_after list n z u) (count_after n u) ids' kin' numbers' out' (i + 1)) e (turn g h.0 t lo (hi ∙ sym s.app_long) h.1) in
           sym h.2 ∙ ap (λ (ss : List R.Storage). place_from g (map stored ss) h.0) k.2
           ∙ place_refused g (stored (R.storage_in (drop at file))) _ h.0 r (ap (λ (y : Storage). step g y h.0) (sym front_is) ∙ q)
 
       -- A storage that was placed leaves a state, and the slots that follow stand for that state's.
-      leaves : (list' : List Page) (n' : ℕ) → Follows list n z v list' n' → (u : Outcome) → TurnedBy u v app' wrk' (list_after (slots_in list) n z v) (count_after n v) ids' kin' numbers' out' (i + 1)
-          → (y : State) × (u ≡ done y) × Held y app' wrk' (slots_in list') n' ids' kin' numbers' out' (i + 1)
+      leaves : (list' : List Slot) (n' : ℕ) → Follows list n z v list' n' → (u : Outcome) → TurnedBy u v app' wrk' (list_after list n z v) (count_after n v) ids' kin' numbers' out' (i + 1)
+          → (y : State) × (u ≡ done y) × Held y app' wrk' list' n' ids' kin' numbers' out' (i + 1)
       leaves list' n' f u d = go v f.0 (rw (f.1, f.2) d)
         where
-          go : (w : Result (Option Placement) Refusal) → Went w → TurnedBy u w app' wrk' (slots_in list') n' ids' kin' numbers' out' (i + 1)
-              → (y : State) × (u ≡ done y) × Held y app' wrk' (slots_in list') n' ids' kin' numbers' out' (i + 1)
+          go : (w : Result (Option Placement) Refusal) → Went w → TurnedBy u w app' wrk' list' n' ids' kin' numbers' out' (i + 1)
+              → (y : State) × (u ≡ done y) × Held y app' wrk' list' n' ids' kin' numbers' out' (i + 1)
           go (Ok None) k e = e
           go (Ok (Some p)) k e = e
           go (Err _) k e = elim k [ ]
 
       -- What was taken still is.
-      still_solid : (list' : List Page) (n' : ℕ) → Follows list n z v list' n' → (up : Floor) → Solid up app wrk → Solid up app' wrk'
+      still_solid : (list' : List Slot) (n' : ℕ) → Follows list n z v list' n' → (up : Floor) → Solid up app wrk → Solid up app' wrk'
       still_solid list' n' f up b =
           let g = told graph copies (length app₀) in
           let t = told_tells graph copies (length app₀) in
@@ -219,21 +184,14 @@ module _ {file graph copies app₀ wrk₀ app wrk : List ℕ} {list : List Page}
           let before : Over up h.0 = same_solid up app wrk _ _ h.1.app_is h.1.wrk_is b in
           same_solid up _ _ app' wrk' (sym q.2.app_is) (sym q.2.wrk_is) (subst (After (Over up)) q.1 (step_over g up z h.0 before))
 
-      pub going_on : (list' : List Page) (n' : ℕ) → Follows list n z v list' n' → (up : Floor) → Solid up app wrk → length app' ≡ length app → length wrk' ≡ length wrk → length ids' ≡ length ids
-          → length kin' ≡ length kin → length numbers' ≡ length numbers → length out' ≡ length out
-          → Going file graph copies app₀ wrk₀ app' wrk' list' n' ids' kin' numbers' out' (at + 16) (i + 1) up
-      going_on list' n' f up b la lw li lr ln lo =
+      pub going_on : (list' : List Slot) (n' i' : ℕ) → Follows list n z v list' n' → i' ≡ i + 1 → (up : Floor) → Solid up app wrk → length app' ≡ length app → length wrk' ≡ length wrk
+          → Going file graph copies app₀ wrk₀ app' wrk' list' n' ids' kin' numbers' out' (at + 16) i' up
+      going_on list' n' i' f ei up b la lw =
           let k = front_cons file at s.fuel s.inside s.enough o in
-          record {
+          rw ei (record {
             inside = opens_inside file at s.inside o;
             app_long = la ∙ s.app_long;
             wrk_long = lw ∙ s.wrk_long;
-            ids_long = li ∙ s.ids_long;
-            kin_long = lr ∙ s.kin_long;
-            numbers_long = ln ∙ s.numbers_long;
-            out_long = lo ∙ s.out_long;
-            pages = f.3;
-            full = f.4;
             solid = still_solid list' n' f up b;
             fuel = k.0;
             enough = k.1;
@@ -246,7 +204,7 @@ module _ {file graph copies app₀ wrk₀ app wrk : List ℕ} {list : List Page}
                 sym (place_next g (stored (R.storage_in (drop at file))) _ h.0 q.0 (ap (λ (y : Storage). step g y h.0) (sym front_is) ∙ q.1))
                 ∙ sym (ap (λ (ss : List R.Storage). place_from g (map stored ss) h.0) k.2) ∙ h.2 in
                 (q.0, q.2, same);
-          }
+          })
 
   -- ---- The end
 
@@ -261,7 +219,7 @@ module _ {file graph copies app₀ wrk₀ app wrk : List ℕ} {list : List Page}
       none x (suc k) = ap (λ (ss : List R.Storage). place_from g (map stored ss) x) (pick_no (opens_storage (drop at file)) _ _ o)
 
 -- Where the code finds a storage at the front of the rest, there is room for one slot more.
-pub room_left : {file graph copies app₀ wrk₀ app wrk : List ℕ} {list : List Page} {n : ℕ} {ids kin numbers out : List ℕ} {at i : ℕ} {floor : Floor}
+pub room_left : {file graph copies app₀ wrk₀ app wrk : List ℕ} {list : List Slot} {n : ℕ} {ids kin numbers out : List ℕ} {at i : ℕ} {floor : Floor}
     → Going file graph copies app₀ wrk₀ app wrk list n ids kin numbers out at i floor → (t u : List ℕ) (r : Bool) (z : Storage)
     → t ≡ drop at file → r ≡ opens_storage t → r ≡ true → u ≡ drop at file → z ≡ stored (R.storage_in u) → n < 256
 room_left {file = file} {at = at} s t u r z et er e eu ez = front_few s u z eu ez (opened_at file t at r true et er e)

@@ -1,7 +1,6 @@
 // All storages of a file are placed, in file order.
 ghost use Rattle.std.specs.Prelude.{◌≡◌, true, [], map, ◌≤◌, length, replicate};
 ghost use Rattle.fields.specs.Record.{u16_at, header_fits};
-ghost use Rattle.records.specs.Outcome.{laid};
 ghost use Rattle.storages.specs.Storage.{stored};
 ghost use Rattle.storages.specs.File.{declared};
 ghost use Rattle.places.specs.Place.{Given, place_from, place};
@@ -12,8 +11,10 @@ use fields::bytes::{tail_of, u16_at};
 use maps::take_bytes;
 use places::memory::{Floor, raise};
 use records::Refusal;
-use slots::{no_slots, put_page, slot_of};
+use slots::Slots;
 use storages::{opens_storage, storage_at};
+use turns::ledger::Ledger;
+use turns::relations::Relations;
 use turns::turn::place_one;
 
 // How many storages were placed, and how many slots opened.
@@ -26,81 +27,51 @@ pub struct Allocated {
 // Every storage in turn, from maps in which nothing is placed yet.
 pub fn place_all(
     file: &[u8],
-    graph: &[u64],
-    copies: &[u64],
+    relations: Relations,
     app: &mut [u8],
     work: &mut [u8],
-    ids: &mut [u16],
-    kin: &mut [u16],
-    numbers: &mut [u16],
-    out: &mut [u8],
+    ledger: &mut Ledger,
 ) -> Result<Allocated, Refusal>
-    requires { (7 ≤ length file.now) × Fit file.now × (length graph.now ≡ 1024) × (length copies.now ≡ 1024) × (length app.old ≤ 256) × (length work.old ≤ 512)
-        × (length ids.old ≡ 256) × (kin.old ≡ replicate 512 0) × (length numbers.old ≡ 256) × (out.old ≡ laid 2048 [] []) }
-    ensures { (g : Given) → Tells g graph.now copies.now → g.lo ≡ 0 → g.hi ≡ length app.old
+    requires fit { (7 ≤ length file.now) × Fit file.now }
+    requires maps { (length app.old ≤ 256) × (length work.old ≤ 512) }
+    requires begun { (ledger.old.kin ≡ replicate 512 0) × (ledger.old.records ≡ replicate 2048 0) × (ledger.old.count ≡ 0) }
+    ensures { (g : Given) → Tells g relations.entry.graph.now relations.entry.copies.now → g.lo ≡ 0 → g.hi ≡ length app.old
         → Allocates (place_from g (map stored (declared file.now)) (record { maps = record { app = app.old; wrk = work.old }; slots = []; placed = [] }))
-        result out.new }
+        result ledger.new.records }
 {
-    let mut list = no_slots();
-    let mut n = 0;
-    let mut at = 7;
-    let mut i = 0;
+    let mut slots = Slots::new();
     let mut floor = Floor { app: 0, work: 0 };
+    // The walk goes over records by the file's own bytes.
+    let mut at = 7;
     while opens_storage(tail_of(file, at)) {
         let s = storage_at(tail_of(file, at));
         floor = raise(floor, app, work);
-        let opened = place_one(
-            list, n, s, graph, copies, app, work, floor, ids, kin, numbers, out, i,
-        )?;
-        match opened {
-            None => {}
-            Some(p) => {
-                let k = n / 16;
-                let page = list[k];
-                list[k] = put_page(page, n % 16, slot_of(s, p));
-                n += 1;
-            }
+        let opened = place_one(&slots, s, relations, app, work, floor, ledger)?;
+        if let Some(p) = opened {
+            slots.open(s, p);
         }
         at += 16;
-        i += 1;
     }
     Ok(Allocated {
-        placed: i,
-        slots: n,
+        placed: ledger.count,
+        slots: slots.len(),
     })
 }
 
 // The placing of an accepted file, whose graph and copies stand in their rows. The application bytes below F are taken from the start.
-pub fn allocate(
-    file: &[u8],
-    graph: &[u64],
-    copies: &[u64],
-    out: &mut [u8],
-) -> Result<Allocated, Refusal>
-    requires { (7 ≤ length file.now) × (header_fits (u16_at file.now 1) (u16_at file.now 3) (u16_at file.now 5) ≡ true) × Fit file.now
-        × (length graph.now ≡ 1024) × (length copies.now ≡ 1024) × (out.old ≡ laid 2048 [] []) }
-    ensures { (g : Given) → Tells g graph.now copies.now → g.lo ≡ 0 → g.hi ≡ u16_at file.now 1
+pub fn allocate(file: &[u8], relations: Relations, ledger: &mut Ledger) -> Result<Allocated, Refusal>
+    requires fit { (7 ≤ length file.now) × Fit file.now }
+    requires header { header_fits (u16_at file.now 1) (u16_at file.now 3) (u16_at file.now 5) ≡ true }
+    requires begun { (ledger.old.kin ≡ replicate 512 0) × (ledger.old.records ≡ replicate 2048 0) × (ledger.old.count ≡ 0) }
+    ensures { (g : Given) → Tells g relations.entry.graph.now relations.entry.copies.now → g.lo ≡ 0 → g.hi ≡ u16_at file.now 1
         → Allocates (place g (u16_at file.now 1) (u16_at file.now 3) (u16_at file.now 5) (map stored (declared file.now)))
-        result out.new }
+        result ledger.new.records }
 {
     let mut app = [0u8; 256];
     let mut work = [0u8; 512];
-    let mut ids = [0u16; 256];
-    let mut kin = [0u16; 512];
-    let mut numbers = [0u16; 256];
     let a = u16_at(file, 1) as usize;
     let f = u16_at(file, 3) as usize;
     let w = u16_at(file, 5) as usize;
     take_bytes(&mut app, 0, f);
-    place_all(
-        file,
-        graph,
-        copies,
-        &mut app[..a],
-        &mut work[..w],
-        &mut ids,
-        &mut kin,
-        &mut numbers,
-        out,
-    )
+    place_all(file, relations, &mut app[..a], &mut work[..w], ledger)
 }

@@ -10,6 +10,8 @@ ghost use Rattle.allocator.specs.Placing.{Analysed, PlacesIn, PlacesOn, Places};
 
 use crate::all::{Allocated, allocate};
 use records::Refusal;
+use turns::ledger::Ledger;
+use turns::relations::Relations;
 
 // What `place` answers: how many storages were placed, how many slots opened, and the passes of all functions together.
 #[derive(Clone, Copy)]
@@ -17,18 +19,6 @@ pub struct Placing {
     pub placed: usize,
     pub slots: usize,
     pub passes: usize,
-}
-
-// The bytes of one buffer in another of the same length.
-fn copy_bytes(to: &mut [u8], from: &[u8])
-    requires { length to.old ≡ length from.now }
-    ensures { to.new ≡ from.now }
-{
-    let mut i = 0;
-    while i < to.len() {
-        to[i] = from[i];
-        i += 1;
-    }
 }
 
 // Places a file whose analysis stands in its buffers. The result is written only when every storage has its place.
@@ -46,10 +36,10 @@ fn place_on(
     ensures { PlacesOn file.now units.old live.old graph.old copies.old out.old passes result
         units.new live.new graph.new copies.new out.new }
 {
-    let mut records = [0u8; 2048];
-    match allocate(file, graph, copies, &mut records) {
+    let mut ledger = Ledger::new();
+    match allocate(file, Relations { graph, copies }, &mut ledger) {
         Ok(Allocated { placed, slots }) => {
-            copy_bytes(out, &records);
+            out.copy_from_slice(&ledger.records);
             Ok(Placing {
                 placed,
                 slots,

@@ -9,8 +9,8 @@ use native.Mathlib.Omega.{arith}
 use lib.ListN.{length, get_or, take}
 use lib.Dec.{ltb}
 use lib.Seq.{get_or-take}
-use borrow.Author.Tests.{lt-ltb, le-ltb}
-use Rattle.std.specs.Prelude.{Some, None}
+use borrow.Author.Tests.{lt-ltb, le-ltb, ltb-true}
+use Rattle.std.specs.Prelude.{Option, Some, None, IfSome}
 use Rattle.rows.proofs.Rows.{lt_or_ge}
 use Rattle.fields.specs.Pick.{pick, pick_yes, pick_no, ◌and◌}
 use Rattle.slots.specs.declared.Slot.{Slot}
@@ -115,6 +115,15 @@ module _ (p : ℕ → Slot → Bool) (ts : List Slot) where
   pub passing_none : (n : ℕ) → NoneBelow n → first_passing p ts n ≡ None
   unfolding first_passing
   passing_none n all = let e = first_none n all in rw e (pick_no _ _ _ (le-ltb n n (omega arith)))
+
+-- An answer is the number of a slot.
+pub passing_below : (p : ℕ → Slot → Bool) (ts : List Slot) (n : ℕ) (r : Option ℕ) → r ≡ first_passing p ts n → IfSome r (λ k. k < n)
+unfolding first_passing pick
+passing_below p ts n r e = subst (λ (o : Option ℕ). IfSome o (λ k. k < n)) (sym e) (go (ltb (first_of p ts n n) n) refl)
+  where
+    go : (b : Bool) → ltb (first_of p ts n n) n ≡ b → IfSome (pick b (Some (first_of p ts n n)) None) (λ k. k < n)
+    go true q = ltb-true _ _ q
+    go false q = tt
 
 -- What stands behind the first n slots does not matter.
 pub passing_front : (p : ℕ → Slot → Bool) (ts : List Slot) (n : ℕ) → first_passing p (take n ts) n ≡ first_passing p ts n

@@ -2,7 +2,7 @@
 // Knows storages; gives the slot as a struct with its placement as a choice inside it, and the list of open slots, to search and to append to.
 #![tactic(auto)]
 
-ghost use Rattle.std.specs.Prelude.{◌≡◌, ◌+◌, ◌≤◌, ◌<◌, length, get_or, set, replicate};
+ghost use Rattle.std.specs.Prelude.{◌≡◌, ◌+◌, ◌≤◌, ◌<◌, length, get_or, set, replicate, IfSome};
 ghost use Rattle.slots.specs.Slots.{no_slot, suits, passes, first_passing, FirstMarked, opened};
 
 use storages::{Placement, Storage, allows_region, region_of};
@@ -22,6 +22,7 @@ pub struct Slots {
     list: [Slot; 256],
     count: usize,
     ghost fits: { count ≤ 256 },
+    ghost long: { length list ≡ 256 },
 }
 
 // The slot that a storage opens at a placement.
@@ -135,7 +136,8 @@ impl Slots {
     // The first open slot that suits a storage and that both rows hold.
     pub fn search(&self, s: Storage, free: &[u64], chosen: &[u64]) -> Option<usize>
         requires { (length free.now ≡ 4) × (length chosen.now ≡ 4) }
-        ensures { result ≡ first_passing (passes s free.now chosen.now) self.now.list self.now.count }
+        ensures first { result ≡ first_passing (passes s free.now chosen.now) self.now.list self.now.count }
+        ensures below { IfSome result (λ k. k < self.now.count) }
     {
         walk(&self.list[..self.count], s, free, chosen)
     }

@@ -1,36 +1,19 @@
 -- The rows of slots while the links of a key are followed. A storage in slot k changes number k of a row and no other, and only if it passes the row's test;
 -- so what a row tells, together with the storages that the links still lead to, stays the same, and at the end it is all. A number over 255 is no slot's.
 use mathlib.Core.Path.{◌≡◌, refl, sym, ap, ◌∙◌}
-use mathlib.Core.Bool.{Bool, true, false, not}
+use mathlib.Core.Bool.{Bool, true, false}
 use mathlib.Core.List.{List}
 use Prim.Native.Nat.{ℕ, zero, suc, ◌*◌, ◌≤◌, ◌<◌, min, max}
 use native.Mathlib.Omega.{arith}
 use lib.Dec.{eqb, ltb}
 use lib.ListN.{length, get_or, replicate}
-use lib.Seq.{ext_get_or}
 use borrow.Author.Tests.{ltb-true, ltb-false, eqb-true, eqb-false, eq-eqb, ne_eqb}
-use Rattle.rows.specs.Row.{member, member_at, with, with_at, same_row}
+use Rattle.rows.specs.Row.{member, member_at, with, with_at}
 use Rattle.rows.specs.Links.{last_of}
-use Rattle.rows.proofs.Rows.{same_refl, same_false}
-use Rattle.rows.proofs.Members.{member_at_zero, with_at_zero, length_with_at, member_with_same, member_with_other, get_or_none, member_none}
+use Rattle.rows.proofs.Members.{member_at_zero, with_at_zero, length_with_at, member_with_same, member_with_other, member_none}
 use Rattle.rows.proofs.Links.{last_cases, last_within, last_has}
-use Rattle.fields.specs.Pick.{pick, pick_yes, pick_no, ◌and◌, ◌or◌}
+use Rattle.fields.specs.Pick.{pick, pick_yes, ◌and◌, ◌or◌}
 use Rattle.turns.specs.Held.{KinLinked, any_in, Marked}
-
--- ---- The smaller id first
-
-module _ (ws : List ℕ) (i j : ℕ) where
-  pub copied_first : (r : Bool) → i < j → r ≡ member_at ws (i * 4) j → r ≡ member_at ws (min i j * 4) (max i j)
-  copied_first r h e =
-      let a : i ≡ min i j = omega arith in
-      let b : j ≡ max i j = omega arith in
-      e ∙ ap (λ (k : ℕ). member_at ws (k * 4) j) a ∙ ap (member_at ws (min i j * 4)) b
-
-  pub copied_second : (r : Bool) → j ≤ i → r ≡ member_at ws (j * 4) i → r ≡ member_at ws (min i j * 4) (max i j)
-  copied_second r h e =
-      let a : j ≡ min i j = omega arith in
-      let b : i ≡ max i j = omega arith in
-      e ∙ ap (λ (k : ℕ). member_at ws (k * 4) i) a ∙ ap (member_at ws (min i j * 4)) b
 
 -- ---- One storage
 
@@ -63,17 +46,6 @@ pick_length : (t : Bool) (a b : List ℕ) → length a ≡ length b → length (
 unfolding pick
 pick_length true a b e = e
 pick_length false a b e = refl
-
--- What code leaves in a row: of the two tests one fails, and the row stays, or both hold.
-module _ (a b : Bool) (x y z : List ℕ) where
-  pub row_past : a ≡ false → z ≡ y → z ≡ pick (a and b) x y
-  row_past e q = q ∙ sym (pick_no (a and b) x y (pick_no a b false e))
-
-  pub row_kept : a ≡ true → b ≡ false → z ≡ y → z ≡ pick (a and b) x y
-  row_kept e f q = q ∙ sym (pick_no (a and b) x y (pick_yes a b false e ∙ f))
-
-  pub row_changed : a ≡ true → b ≡ true → z ≡ x → z ≡ pick (a and b) x y
-  row_changed e f q = q ∙ sym (pick_yes (a and b) x y (pick_yes a b false e ∙ f))
 
 pub put_length : (t : Bool) (r z : List ℕ) (k : ℕ) → z ≡ pick t (with_at r 0 k) r → length z ≡ length r
 put_length t r z k e = ap length e ∙ pick_length t (with_at r 0 k) r (length_with_at r 0 k)
@@ -207,27 +179,3 @@ module _ (graph copies : List ℕ) (id b : ℕ) (ids keys numbers : List ℕ) (c
           barred_four = m.barred_four;
           partners_four = m.partners_four;
         }
-
--- ---- Is any slot marked?
-
-module _ (r : List ℕ) where
-  -- A word other than 0 tells the row from the empty one.
-  pub marked_at : (j : ℕ) → (get_or r j 0 ≡ 0 → ⊥) → true ≡ not (same_row r (replicate 4 0))
-  marked_at j d = sym (ap not (same_false r (replicate 4 0) (λ e. d (ap (λ (l : List ℕ). get_or l j 0) e ∙ get_or_none 4 j))))
-
-  -- Where the first three words are 0, the last one tells.
-  pub marked_last : length r ≡ 4 → get_or r 0 0 ≡ 0 → get_or r 1 0 ≡ 0 → get_or r 2 0 ≡ 0 → not (eqb (get_or r 3 0) 0) ≡ not (same_row r (replicate 4 0))
-  marked_last four a b c = go (eqb (get_or r 3 0) 0) refl
-    where
-      each : get_or r 3 0 ≡ 0 → (j : ℕ) → j < length r → get_or r j 0 ≡ get_or {A = ℕ} (replicate 4 0) j 0
-      each d zero l = a
-      each d (suc zero) l = b
-      each d (suc (suc zero)) l = c
-      each d (suc (suc (suc zero))) l = d
-      each d (suc (suc (suc (suc j)))) l = absurd (omega arith)
-
-      go : (t : Bool) → eqb (get_or r 3 0) 0 ≡ t → not t ≡ not (same_row r (replicate 4 0))
-      go false e = marked_at 3 (eqb-false (get_or r 3 0) 0 e)
-      go true e =
-          let empty : r ≡ replicate 4 0 = ext_get_or 0 r (replicate 4 0) four (each (eqb-true (get_or r 3 0) 0 e)) in
-          sym (ap not (ap (λ (l : List ℕ). same_row l (replicate 4 0)) empty ∙ same_refl (replicate 4 0)))

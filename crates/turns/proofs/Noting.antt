@@ -1,22 +1,22 @@
 -- What is noted of one storage more. The code keeps ids, slot numbers and slots at the front of arrays and the result records at the front of a buffer; a
 -- store right behind the front puts one element at the end of the list that stands there, and the rest of the buffer stays clear.
 use Rattle.std.specs.Prelude.{Option, Some, None, Result, Ok}
-use mathlib.Core.Path.{◌≡◌, refl, sym, ap, ◌∙◌, subst}
+use mathlib.Core.Path.{◌≡◌, refl, sym, ap, ap₂, ◌∙◌, subst}
 use mathlib.Core.Bool.{Bool, true, false}
-use mathlib.Core.List.{List, [], ◌∷◌, ◌++◌, map, map-append, append-nil}
-use Prim.Native.Nat.{ℕ, suc, ◌+◌, ◌-◌, ◌*◌, ◌/◌, ◌%◌, ◌≤◌, ◌<◌}
+use mathlib.Core.List.{List, [], ◌∷◌, ◌++◌, map, map-append, append-nil, append_assoc}
+use Prim.Native.Nat.{ℕ, ◌+◌, ◌-◌, ◌*◌, ◌≤◌, ◌<◌}
 use native.Mathlib.Omega.{arith}
 use native.Mathlib.Numerals.{add-one}
 use native.Mathlib.Decide.{ℕ_discrete}
 use lib.ListN.{length, take, drop, get_or, set, replicate, length-append, length-set, length-replicate, replicate-append-replicate, length-map, get_or-map}
-use lib.Seq.{take-suc-set, take-append_seam, drop-append-add, drop_at, drop-nil, get_or-take, get_or-set_same, get_or-set_other, map-set_same, sets-eq}
+use borrow.Rule.Slice.PartMut.{put_mid}
+use lib.Seq.{drop-drop, take-suc-set, take-append_seam, drop-append-add, drop_at, drop-nil, get_or-take, get_or-set_same, get_or-set_other, map-set_same}
 use Rattle.rows.specs.Row.{put}
 use Rattle.fields.specs.Pick.{pick}
 use Rattle.records.specs.Outcome.{laid}
 use Rattle.storages.specs.declared.Placement.{Placement}
 use Rattle.storages.specs.declared.Storage.{Storage}
 use Rattle.storages.specs.declared.Room.{Room}
-use Rattle.storages.specs.Placement.{code_of, a_of, b_of}
 use Rattle.storages.specs.Storage.{tries}
 use Rattle.storages.specs.Room.{room}
 use Rattle.slots.specs.declared.Slot.{Slot}
@@ -32,21 +32,12 @@ use Rattle.records.specs.declared.Refusal.{Refusal}
 
 -- ---- A result record
 
--- The eight stores of a record, as the code makes them.
-pub record_put : (d d₁ d₂ d₃ : List ℕ) (at id c a b : ℕ) (p : Placement) → at + 8 ≤ length d → c ≡ code_of p → a ≡ a_of p → b ≡ b_of p
-    → d₁ ≡ set (set (set d at 10) (at + 1) (id % 256)) (at + 1 + 1) (id / 256 % 256)
-    → d₂ ≡ set (set (set d₁ (at + 3) c) (at + 4) (a % 256)) (at + 4 + 1) (a / 256 % 256)
-    → d₃ ≡ set (set d₂ (at + 6) (b % 256)) (at + 6 + 1) (b / 256 % 256)
-    → d₃ ≡ put d at (record_at id p)
+-- The eight bytes of a record, copied into their part of the buffer.
+pub record_put : (out new : List ℕ) (at n id : ℕ) (p : Placement) → n ≡ 8 → new ≡ record_at id p → put_mid at n out new ≡ put out at (record_at id p)
 unfolding put
-record_put d d₁ d₂ d₃ at id c a b p h ec ea eb e₁ e₂ e₃ =
-    let at₂ : at + 1 + 1 ≡ suc (suc at) = omega arith in
-    let at₃ : at + 3 ≡ suc (suc (suc at)) = omega arith in
-    let at₅ : at + 4 + 1 ≡ suc (suc (suc (suc (suc at)))) = omega arith in
-    let at₄ : at + 4 ≡ suc (suc (suc (suc at))) = omega arith in
-    let at₇ : at + 6 + 1 ≡ suc (suc (suc (suc (suc (suc (suc at)))))) = omega arith in
-    let at₆ : at + 6 ≡ suc (suc (suc (suc (suc (suc at))))) = omega arith in
-    rw (e₃, e₂, e₁, ec, ea, eb, at₂, at₃, at₅, at₄, at₇, at₆, add-one at) (sets-eq (record_at id p) d at h)
+record_put out new at n id p e q =
+    ap₂ (λ (k : ℕ) (r : List ℕ). put_mid at k out r) e q ∙ ap (λ (d : List ℕ). take at out ++ (record_at id p ++ d)) (drop-drop 8 at out)
+    ∙ sym (append_assoc (take at out) (record_at id p) (drop (at + 8) out))
 
 -- A list laid at the front of a clear buffer, and what is written right behind it.
 drop_clear : (k n m : ℕ) → n ≡ k + m → drop {A = ℕ} k (replicate n 0) ≡ replicate m 0

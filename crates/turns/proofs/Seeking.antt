@@ -7,26 +7,24 @@ use mathlib.Core.List.{List, [], ◌∷◌, map}
 use Prim.Native.Nat.{ℕ, zero, suc, ◌≤◌, ◌<◌, min, max}
 use native.Mathlib.Omega.{arith}
 use lib.Dec.{eqb}
-use lib.ListN.{length, take, get_or, replicate}
+use lib.ListN.{length, take, get_or}
 use lib.Seq.{get_or-take}
-use borrow.Author.Tests.{eq-eqb, ne_eqb, eqb-true, not-false}
-use Rattle.rows.specs.Row.{member, member_at, less, row, put, less_row, same_row}
+use borrow.Author.Tests.{eq-eqb, ne_eqb, eqb-true}
+use Rattle.rows.specs.Row.{member, member_at, less, row, put, less_row}
 use Rattle.rows.proofs.Tests.{T_true, T_yes, T_false}
-use Rattle.rows.proofs.Rows.{row_whole, length_zip, put_whole, same_true}
+use Rattle.rows.proofs.Rows.{row_whole, length_zip, put_whole}
 use Rattle.rows.proofs.Members.{member_at_zero, member_less}
-use Rattle.fields.specs.Pick.{pick, pick_yes, pick_no, ◌and◌, ◌or◌, All}
+use Rattle.fields.specs.Pick.{pick, pick_yes, ◌and◌, ◌or◌, All}
 use Rattle.storages.specs.declared.Storage.{Storage}
 use Rattle.storages.specs.Storage.{tries}
 use Rattle.units.specs.Sets.{any}
 use Rattle.slots.specs.declared.Slot.{Slot}
-use Rattle.slots.specs.Slots.{no_slot, suits, passes, first_of}
-use Rattle.slots.proofs.Laws.{first_is, first_none}
-use Rattle.slots.proofs.Marks.{and_false}
+use Rattle.slots.specs.Slots.{no_slot, suits, passes, first_passing}
+use Rattle.slots.proofs.Laws.{and_false, passing_is, passing_none}
 use Rattle.places.specs.Place.{Given, Opened, fits, partners, fits_copied, first_slot, or_else, slot_for, Placed, State}
-use Rattle.turns.specs.Held.{slot_number, in_slot, key_of, slot_key, Keyed, Tells, keys_of, any_in, Marked, Kept, slot_in}
+use Rattle.turns.specs.Held.{slot_number, in_slot, key_of, slot_key, Keyed, Tells, keys_of, any_in, Marked, Kept}
 use Rattle.turns.proofs.Joining.{slot_at, FirstSlot, first_slot_lem, suits_key}
 use Rattle.turns.proofs.Numbering.{any_ids}
-use Rattle.turns.proofs.Marking.{none_marked}
 use Rattle.turns.proofs.Noting.{slot_there}
 
 -- ---- A test over the placed storages, by their ids, keys and numbers
@@ -101,14 +99,14 @@ module _ (x : State) (list : List Slot) (n : ℕ) (ids kin numbers : List ℕ) (
 -- ---- The first slot that passes
 
 first_of_slots : (p : ℕ → Slot → Bool) (q : Opened → Bool) (list : List Slot) (ts : List Opened) (n : ℕ) → n ≡ length ts
-    → ((k : ℕ) → k < n → p k (get_or list k no_slot) ≡ q (slot_at ts k)) → first_of p list n n ≡ slot_in n (first_slot q ts)
+    → ((k : ℕ) → k < n → p k (get_or list k no_slot) ≡ q (slot_at ts k)) → first_passing p list n ≡ first_slot q ts
 first_of_slots p q list ts n e same = go (first_slot q ts) (first_slot_lem q ts)
   where
-    go : (r : Option ℕ) → FirstSlot q ts r → first_of p list n n ≡ slot_in n r
-    go None none = first_none p list n (λ j l. same j l ∙ T_false (q (slot_at ts j)) (none j (omega arith)))
+    go : (r : Option ℕ) → FirstSlot q ts r → first_passing p list n ≡ r
+    go None none = passing_none p list n (λ j l. same j l ∙ T_false (q (slot_at ts j)) (none j (omega arith)))
     go (Some k) h =
         let l : k < n = omega (arith, h.0) in
-        first_is p list n k l (same k l ∙ T_true (q (slot_at ts k)) h.1) (λ j b. same j (omega arith) ∙ T_false (q (slot_at ts j)) (h.2 j b))
+        passing_is p list n k l (same k l ∙ T_true (q (slot_at ts k)) h.1) (λ j b. same j (omega arith) ∙ T_false (q (slot_at ts j)) (h.2 j b))
 
 and_and : (a b c : Bool) → (a and (b and c)) ≡ ((a and b) and c)
 unfolding pick
@@ -125,22 +123,6 @@ and_where : (a b c : Bool) → (a ≡ true → b ≡ c) → (a and b) ≡ (a and
 unfolding pick
 and_where true b c h = h refl
 and_where false b c h = refl
-
--- An empty row holds no number; where no number stands in both rows, no slot passes.
-unmarked : (r : List ℕ) → not (same_row r (replicate 4 0)) ≡ false → (j : ℕ) → member_at r 0 j ≡ false
-unmarked r e j = ap (λ (l : List ℕ). member_at l 0 j) (same_true r (replicate 4 0) (not-false _ e)) ∙ none_marked j
-
-module _ (s : Storage) (free partnered : List ℕ) (list : List Slot) (n : ℕ) where
-  none_passes : ((j : ℕ) → (member_at free 0 j and member_at partnered 0 j) ≡ false) → n ≡ first_of (passes s free partnered) list n n
-  unfolding passes
-  none_passes h =
-      sym (first_none (passes s free partnered) list n (λ j l. ap (λ (t : Bool). suits s (get_or list j no_slot) and t) (h j) ∙ and_false (suits s (get_or list j no_slot))))
-
-  closed_none : not (same_row free (replicate 4 0)) ≡ false → n ≡ first_of (passes s free partnered) list n n
-  closed_none e = none_passes (λ j. pick_no (member_at free 0 j) (member_at partnered 0 j) false (unmarked free e j))
-
-  pub unmarked_none : not (same_row partnered (replicate 4 0)) ≡ false → n ≡ first_of (passes s free partnered) list n n
-  unmarked_none e = none_passes (λ j. ap (λ (t : Bool). member_at free 0 j and t) (unmarked partnered e j) ∙ and_false (member_at free 0 j))
 
 -- What is left of a row, once another's numbers are taken out.
 left_is : (seen barred free : List ℕ) → length seen ≡ 4 → length barred ≡ 4 → free ≡ put seen 0 (less_row (row seen 0 4) (row barred 0 4))
@@ -199,38 +181,24 @@ module _ (g : Given) (s : Storage) (x : State) (list : List Slot) (n : ℕ) (ids
         rw (slot_there x list n ids kin numbers i kept k l)
         (and_where _ _ _ (λ e. ap₂ (λ (a b : Bool). a and b) (free_is k l e) (partners_is k l e)) ∙ and_and _ _ _)
 
-    copied_found : first_of (passes s free partnered) list n n ≡ slot_in n (first_slot (fits_copied g s) x.slots)
+    copied_found : first_passing (passes s free partnered) list n ≡ first_slot (fits_copied g s) x.slots
     copied_found = first_of_slots _ (fits_copied g s) list x.slots n kept.many passes_copied
 
-    fitting_found : first_of (passes s free free) list n n ≡ slot_in n (first_slot (fits g s) x.slots)
+    fitting_found : first_passing (passes s free free) list n ≡ first_slot (fits g s) x.slots
     fitting_found = first_of_slots _ (fits g s) list x.slots n kept.many passes_fits
 
-    module _ (first : ℕ) (t : tries s ≡ true) (e : first ≡ first_of (passes s free partnered) list n n) where
-      -- A slot with a copy partner was found.
-      pub seek_copied : first < n → first ≡ slot_in n (slot_for g s x.slots)
-      unfolding slot_for pick
-      seek_copied l = rw t (go (first_slot (fits_copied g s) x.slots) (e ∙ copied_found))
-        where
-          go : (r : Option ℕ) → first ≡ slot_in n r → first ≡ slot_in n (or_else r (first_slot (fits g s) x.slots))
-          go None q = absurd (omega arith)
-          go (Some k) q = q
+    -- A slot with a copy partner was found.
+    pub seek_copied : (k : ℕ) → tries s ≡ true → Some k ≡ first_passing (passes s free partnered) list n → Some k ≡ slot_for g s x.slots
+    unfolding slot_for pick
+    seek_copied k t e = rw t (ap (λ (r : Option ℕ). or_else r (first_slot (fits g s) x.slots)) (e ∙ copied_found))
 
-      -- None was found: the first that fits is taken.
-      pub seek_fitting : n ≤ first → (r : ℕ) → r ≡ first_of (passes s free free) list n n
-          → r ≡ slot_in n (slot_for g s x.slots)
-      unfolding slot_for pick
-      seek_fitting l r f = rw t (go (first_slot (fits_copied g s) x.slots) (first_slot_lem (fits_copied g s) x.slots) (e ∙ copied_found))
-        where
-          go : (o : Option ℕ) → FirstSlot (fits_copied g s) x.slots o → first ≡ slot_in n o
-              → r ≡ slot_in n (or_else o (first_slot (fits g s) x.slots))
-          go None h q = f ∙ fitting_found
-          go (Some k) h q = absurd (omega (arith, h.0, kept.many))
-
-    -- No slot is left: none fits.
-    pub seek_closed : tries s ≡ true → not (same_row free (replicate 4 0)) ≡ false → n ≡ slot_in n (slot_for g s x.slots)
-    seek_closed t e = seek_fitting n t (closed_none s free partnered list n e) (omega arith) n (closed_none s free free list n e)
+    -- None was found: the first that fits is taken.
+    pub seek_fitting : (r : Option ℕ) → tries s ≡ true → None ≡ first_passing (passes s free partnered) list n → r ≡ first_passing (passes s free free) list n
+        → r ≡ slot_for g s x.slots
+    unfolding slot_for pick
+    seek_fitting r t e f = rw t (f ∙ fitting_found ∙ ap (λ (o : Option ℕ). or_else o (first_slot (fits g s) x.slots)) (e ∙ copied_found))
 
   -- A storage that shares nothing joins no slot.
-  pub seek_none : tries s ≡ false → n ≡ slot_in n (slot_for g s x.slots)
+  pub seek_none : tries s ≡ false → None ≡ slot_for g s x.slots
   unfolding slot_for pick
   seek_none t = rw t refl

@@ -1,10 +1,10 @@
 -- One storage's turn. What the code found of its slot and of its place is what the step finds, since the words stand for the state; so the state that the
 -- step comes to is the one that the words stand for afterwards.
-use Rattle.std.specs.Prelude.{Option, Some, None, Result, Ok}
+use Rattle.std.specs.Prelude.{Some, None, Result, Ok}
 use mathlib.Core.Path.{◌≡◌, refl, sym, ap, ◌∙◌, subst}
 use mathlib.Core.Bool.{false}
 use mathlib.Core.List.{List}
-use Prim.Native.Nat.{ℕ, ◌≤◌, ◌<◌}
+use Prim.Native.Nat.{ℕ, ◌<◌}
 use native.Mathlib.Omega.{arith}
 use lib.ListN.{length}
 use Rattle.storages.specs.declared.Placement.{Placement}
@@ -13,7 +13,7 @@ use Rattle.storages.specs.Room.{room}
 use Rattle.places.specs.Memory.{Maps}
 use Rattle.places.specs.Legal.{Inside, FixedSmall}
 use Rattle.places.specs.Place.{Given, fits, choose, State, done, take_room, join_slot, step_by, slot_for, step}
-use Rattle.turns.specs.Held.{key_of, slot_key, slot_in}
+use Rattle.turns.specs.Held.{key_of, slot_key}
 use Rattle.turns.proofs.Joining.{slot_at, SlotFor, slot_for_lem, suits_key}
 use Rattle.places.proofs.Tests.{and_l}
 use Rattle.places.proofs.Choosing.{Good, choose_inside}
@@ -38,27 +38,22 @@ module _ (s : Storage) (app wrk : List ℕ) where
 
 -- ---- The slot that was looked for
 
-module _ (g : Given) (s : Storage) (x : State) (n k : ℕ) (many : n ≡ length x.slots) (e : k ≡ slot_in n (slot_for g s x.slots)) where
-  pub joins : k < n → step g s x ≡ done (join_slot s x k)
-  unfolding step
-  joins l = go (slot_for g s x.slots) e
-    where
-      go : (r : Option ℕ) → k ≡ slot_in n r → step_by g s x r ≡ done (join_slot s x k)
-      go (Some j) q = ap (λ (m : ℕ). done (join_slot s x m)) (sym q)
-      go None q = absurd (omega arith)
+module _ (g : Given) (s : Storage) (x : State) where
+  module _ (k : ℕ) (e : Some k ≡ slot_for g s x.slots) where
+    pub joins : step g s x ≡ done (join_slot s x k)
+    unfolding step
+    joins = ap (step_by g s x) (sym e)
 
-  pub joins_key : k < n → slot_key (slot_at x.slots k).slot ≡ key_of s
-  unfolding fits
-  joins_key l = go (slot_for g s x.slots) (slot_for_lem g s x.slots) e
-    where
-      go : (r : Option ℕ) → SlotFor g s x.slots r → k ≡ slot_in n r → slot_key (slot_at x.slots k).slot ≡ key_of s
-      go (Some j) b q = subst (λ (m : ℕ). slot_key (slot_at x.slots m).slot ≡ key_of s) (sym q) (suits_key s (slot_at x.slots j).slot (and_l _ _ b.2))
-      go None b q = absurd (omega arith)
+    there : SlotFor g s x.slots (Some k)
+    there = subst (SlotFor g s x.slots) (sym e) (slot_for_lem g s x.slots)
 
-  pub stands_alone : n ≤ k → step g s x ≡ take_room s x (choose g s x.maps)
+    pub joins_below : k < length x.slots
+    joins_below = there.1
+
+    pub joins_key : slot_key (slot_at x.slots k).slot ≡ key_of s
+    unfolding fits
+    joins_key = suits_key s (slot_at x.slots k).slot (and_l _ _ there.2)
+
+  pub stands_alone : None ≡ slot_for g s x.slots → step g s x ≡ take_room s x (choose g s x.maps)
   unfolding step
-  stands_alone l = go (slot_for g s x.slots) (slot_for_lem g s x.slots) e
-    where
-      go : (r : Option ℕ) → SlotFor g s x.slots r → k ≡ slot_in n r → step_by g s x r ≡ take_room s x (choose g s x.maps)
-      go (Some j) b q = absurd (omega (arith, b.1))
-      go None b q = refl
+  stands_alone e = ap (step_by g s x) (sym e)

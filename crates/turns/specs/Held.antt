@@ -103,11 +103,6 @@ pub record Held (x : P.State) (app wrk : List ℕ) (list : List Slot) (n : ℕ) 
   pub kept : Kept x list n ids kin numbers i
   pub out_is : out ≡ laid 2048 (P.records_of x.placed) []
 
--- The number of the slot that was found; n where none was.
-abbrev pub slot_in : ℕ → Option ℕ → ℕ
-slot_in n None = n
-slot_in n (Some k) = k
-
 -- The list of slots after a storage, and how many they are: with the one that it opened, if it did.
 abbrev pub list_after : List Slot → ℕ → Storage → Result (Option Placement) Refusal → List Slot
 list_after list n s (Ok None) = list

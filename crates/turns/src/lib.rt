@@ -2,5 +2,7 @@
 // Knows the places and the slots by their promises; gives the slot that a storage joins, and its turn, which notes where it lies.
 #![tactic(auto)]
 
+pub mod ledger;
 pub mod marks;
+pub mod relations;
 pub mod turn;
