@@ -171,6 +171,42 @@ pub roles_far : (f : List ℕ) (at : ℕ) → length f ≤ at → roles_in (drop
 unfolding opens_seven
 roles_far f at l = roles_none (drop at f) (pick_no _ _ _ (lt-leb 7 (length (drop at f)) (simp length-drop (omega arith))))
 
+-- A walk meets one record more, or its last is behind it.
+opens_yes : (t : List ℕ) (kind : ℕ) → 7 ≤ length t → get_or t 0 0 ≡ kind → opens_seven t kind ≡ true
+unfolding opens_seven u8_at
+opens_yes t kind l e = pick_yes _ _ _ (le-leb 7 (length t) l) ∙ eq-eqb _ _ e
+
+opens_no : (t : List ℕ) (kind : ℕ) → (get_or t 0 0 ≡ kind → ⊥) → opens_seven t kind ≡ false
+unfolding opens_seven u8_at pick
+opens_no t kind d = rw (ne_eqb _ _ d) (go (leb 7 (length t)))
+  where
+    go : (a : Bool) → (a and false) ≡ false
+    go true = refl
+    go false = refl
+
+module _ (t : List ℕ) where
+  pub roles_more : 7 ≤ length t → get_or t 0 0 ≡ 3 → roles_in t ≡ get_or t 1 0 ∷ roles_in (drop 7 t)
+  unfolding u8_at
+  roles_more l e = roles_some t (opens_yes t 3 l e)
+
+  pub roles_short : length t < 7 → roles_in t ≡ []
+  unfolding opens_seven
+  roles_short l = roles_none t (pick_no _ _ _ (lt-leb 7 (length t) l))
+
+  pub roles_other : (get_or t 0 0 ≡ 3 → ⊥) → roles_in t ≡ []
+  roles_other d = roles_none t (opens_no t 3 d)
+
+  pub fields_more : 7 ≤ length t → get_or t 0 0 ≡ 6 → fields_in t ≡ get_or t 1 0 ∷ fields_in (drop 7 t)
+  unfolding u8_at
+  fields_more l e = fields_some t (opens_yes t 6 l e)
+
+  pub fields_short : length t < 7 → fields_in t ≡ []
+  unfolding opens_seven
+  fields_short l = fields_none t (pick_no _ _ _ (lt-leb 7 (length t) l))
+
+  pub fields_other : (get_or t 0 0 ≡ 6 → ⊥) → fields_in t ≡ []
+  fields_other d = fields_none t (opens_no t 6 d)
+
 -- A place in a list of bytes -------------------------------------------------------------------------------------------------------------------
 
 module _ (f : List ℕ) (at : ℕ) where

@@ -6,12 +6,11 @@ use mathlib.Core.List.{List, [], ◌∷◌, ◌++◌}
 use Prim.Native.Nat.{ℕ, zero, suc, ◌+◌, ◌*◌, ◌/◌, ◌%◌, ◌^◌, ◌≤◌, ◌<◌}
 use native.Mathlib.Omega.{arith}
 use lib.Dec.{ltb, eqb}
-use lib.ListN.{length, get_or, drop, replicate, length-drop, drop_of_length-le}
-use lib.Seq.{drop-drop}
+use lib.ListN.{length, get_or, drop, replicate, drop_of_length-le}
 use borrow.Author.Tests.{eqb-true, eqb-false}
 use Rattle.rows.specs.Row.{put}
 use Rattle.rows.proofs.Pack.{pack_ext, pack_none}
-use Rattle.fields.specs.Pick.{pick, pick_yes, pick_no, ◌and◌, has}
+use Rattle.fields.specs.Pick.{pick, ◌and◌, has}
 use Rattle.fields.specs.Edition.{one}
 use Rattle.fields.specs.Fields.{Field, no_field, Y, r*, table, branch_fields, fields_of, end_fields_of, field_at}
 use Rattle.fields.specs.Table.{byte_of, row_word, entry_of, above}
@@ -23,10 +22,12 @@ use Rattle.records.proofs.Pendings.{row_low}
 use Rattle.units.specs.Sets.{select}
 use Rattle.units.specs.Uses.{is_result, units_in, units_of, Lookup, lookup, abis_by, abis_of, reads_field, writes_field, reads, writes}
 use Rattle.units.specs.Rows.{unit_row}
-use Rattle.units.specs.Along.{from, Stands, StandsAt, step_from, IsStep, Sound, Ready}
-use Rattle.units.specs.Marks.{jotted, marks, Behind, roles_in, fields_in, wanted_by, read_in, written_in, callee_in, takes_abis, read_source, read_role, read_abis, written_abis}
+use Rattle.units.specs.Along.{from, Stands, StandsAt, step_from, IsStep, Ready}
+use Rattle.units.specs.Marks.{jotted, marks, roles_in, fields_in, wanted_by, read_in, written_in, callee_in, takes_abis, read_source, read_role, read_abis, written_abis}
 use Rattle.units.specs.declared.cursor.Cursor.{Cursor}
-use Rattle.units.proofs.Filling.{roles_far, fields_count, operands_on, step_on, operand_marks, abi_marks_lem, either_way}
+use Rattle.units.specs.declared.head.Head.{Head}
+use Rattle.units.specs.declared.uses.Roles.TheVariants.{Parameters, Results, Outcomes}
+use Rattle.units.proofs.Filling.{roles_far, operands_on, step_on, operand_marks, abi_marks_lem, either_way}
 
 -- The fields of a row ----------------------------------------------------------------------------------------------------------------------------
 
@@ -170,17 +171,17 @@ module _ (f us found tb : List ℕ) (ready : Ready f us found tb) (short : lengt
 
     reads_tail_call : Reads true 3
     unfolding reads read_abis takes_abis read_role read_source wanted_by pick end_fields_of
-    reads_tail_call = fieldless true 3 sub refl (fields_in (drop at f)) k _ ∙ callee_marks (wanted_by 0) n low
+    reads_tail_call = fieldless true 3 sub refl (fields_in (drop at f)) k _ ∙ callee_marks (wanted_by Parameters) n low
 
     reads_return : Reads true 5
     unfolding reads read_abis takes_abis read_role read_source wanted_by pick end_fields_of
     reads_return =
-        fieldless true 5 sub refl (fields_in (drop at f)) k _ ∙ abi_marks_lem f us found ready.accepted ready.found_are own.at own.k stands_own (wanted_by 1)
+        fieldless true 5 sub refl (fields_in (drop at f)) k _ ∙ abi_marks_lem f us found ready.accepted ready.found_are own.at own.k stands_own (wanted_by Results)
         ∙ ap (λ (l : List Abi). unit_row one us (units_of one is_result l)) (sym owns)
 
     reads_call : Reads false 27
     unfolding reads read_abis takes_abis read_role read_source wanted_by pick fields_of table
-    reads_call = fieldless false 27 sub refl (fields_in (drop at f)) k _ ∙ callee_marks (wanted_by 0) n low
+    reads_call = fieldless false 27 sub refl (fields_in (drop at f)) k _ ∙ callee_marks (wanted_by Parameters) n low
 
     -- neither a call nor Return
     reads_fields : (ends : Bool) (op : ℕ)
@@ -218,7 +219,7 @@ module _ (f us found tb : List ℕ) (ready : Ready f us found tb) (short : lengt
 
     writes_call : Writes false 27
     unfolding writes written_abis takes_abis wanted_by pick fields_of table
-    writes_call = unwritten false 27 sub refl (fields_in (drop at f)) k _ ∙ callee_marks (wanted_by 2) n low
+    writes_call = unwritten false 27 sub refl (fields_in (drop at f)) k _ ∙ callee_marks (wanted_by Outcomes) n low
 
     writes_fields : (ends : Bool) (op : ℕ)
         → marks (written_in (row_word (row_by ends op sub)) ends) found k (fields_in (drop at f)) (replicate 8 0)
@@ -245,69 +246,37 @@ module _ (f us found tb : List ℕ) (ready : Ready f us found tb) (short : lengt
 
 -- The code ----------------------------------------------------------------------------------------------------------------------------------------
 
-pub read_sound : (ends : Bool) (op : ℕ) (callee own src : Cursor) → src ≡ read_source ends op callee own → Sound callee → Sound own → Sound src
-unfolding read_source pick
-read_sound ends op callee own src e c o = rw e (go ends (eqb op 5))
-  where
-    go : (x a : Bool) → Sound (pick x (pick a own callee) callee)
-    go true true = o
-    go true false = c
-    go false a = c
-
--- the rows that a walk over ABI records leaves, from what each call of the code answers
-pub reads_abis : (ends : Bool) (op : ℕ) (f ns : List ℕ) (found callee own src : Cursor) (role : ℕ) (abis row r : List ℕ)
-    → takes_abis ends op ≡ true → found ≡ callee → src ≡ read_source ends op found own → role ≡ read_role ends op → abis ≡ drop src.at f
-    → r ≡ marks (wanted_by role) ns src.k (roles_in abis) row → r ≡ read_abis ends op f ns callee own row
-unfolding read_abis
-reads_abis ends op f ns found callee own src role abis row r e a b c g d = rw (d, g, c, b, a) (sym (pick_yes _ _ _ e))
-
-pub writes_abis : (ends : Bool) (op : ℕ) (f ns : List ℕ) (found callee : Cursor) (abis row w : List ℕ)
-    → takes_abis ends op ≡ true → ends ≡ false → found ≡ callee → abis ≡ drop found.at f
-    → w ≡ marks (wanted_by 2) ns found.k (roles_in abis) row → w ≡ written_abis ends op f ns callee row
-unfolding written_abis
-writes_abis ends op f ns found callee abis row w e x a g d = rw (d, g, a) (sym (pick_yes _ _ _ e ∙ pick_no _ _ _ x))
-
 -- a row that was cleared
 pub cleared : (row : List ℕ) → length row ≡ 8 → put row 0 (replicate 8 0) ≡ replicate 8 0
 unfolding put
 cleared row e = ap (λ (l : List ℕ). replicate 8 0 ++ l) (drop_of_length-le row {i = 8} (omega arith))
 
--- what is left of a short file, from a place before which so many numbers fit
-pub rest_fits : (f t : List ℕ) (at k : ℕ) → t ≡ drop at f → length f ≤ 16384 → 7 * k ≤ at → Behind k t
-rest_fits f t at k e l s = rw e (simp length-drop (omega arith))
+-- LAW. The rows of an accepted file's step, from what each call of the code answers. The tail t begins with the step's record, whose head was read.
+module _ (f t : List ℕ) (at : ℕ) (tail : t ≡ drop at f) (head : Head)
+    (ends : head.ends ≡ eqb (u8_at t 0) 7) (op : head.op ≡ u8_at t 1) (sub : head.sub ≡ u8_at t 2) (callee : head.callee ≡ u8_at t 3) where
+  step_is : step_from f at ≡ step_of head.ends head.op head.sub head.callee (from f (at + 4))
+  step_is = rw (ends, op, sub, callee, tail)
 
--- LAW. The rows of an accepted file's step, from what each call of the code answers. The tail t begins with the step's record, and os behind it.
-module _ (f t os : List ℕ) (at : ℕ) (tail : t ≡ drop at f) (behind : os ≡ drop 4 t) where
-  operands_are : os ≡ drop (at + 4) f
-  operands_are = behind ∙ ap (drop 4) tail ∙ drop-drop 4 at f
-
-  pub operands_count : (n : ℕ) → n ≡ length (fields_in os) → n ≡ length (from f (at + 4)).operands
-  operands_count n e = e ∙ ap (λ (l : List ℕ). length (fields_in l)) operands_are ∙ fields_count (drop (at + 4) f)
-
-  step_is : step_from f at ≡ step_of (eqb (get_or t 0 0) 7) (get_or t 1 0) (get_or t 2 0) (get_or t 3 0) (from f (at + 4))
-  unfolding u8_at
-  step_is = rw tail
-
-  module _ (found tb : List ℕ) (k : ℕ) (own : Cursor) (short : length f ≤ 16384) (fits : at + 4 ≤ length f) (low : get_or t 3 0 < 256) (fields : ℕ)
-      (row : fields ≡ row_word (row_by (eqb (get_or t 0 0) 7) (get_or t 1 0) (get_or t 2 0)))
+  module _ (found tb : List ℕ) (k : ℕ) (own : Cursor) (short : length f ≤ 16384) (fits : at + 4 ≤ length f) (low : head.callee < 256)
       (us : List ℕ) (fn : Function) (ready : Ready f us found tb) (stands_own : StandsAt f own) (owns : fn.abis ≡ (from f own.at).abis) (here : Stands f at k) (is : IsStep f at) where
     behind_step : Stands f (at + 4) k
     behind_step = step_on f us ready.accepted at k is fits here
 
-    pub behind_operands : (n : ℕ) → n ≡ length (fields_in os) → Stands f (at + 4 + 7 * n) (k + n)
-    behind_operands n e = operands_on f us ready.accepted n (at + 4) k (e ∙ ap (λ (l : List ℕ). length (fields_in l)) operands_are) behind_step
+    pub behind_operands : (next : Cursor) → next.at ≡ at + 4 + 7 * length (fields_in (drop (at + 4) f)) → next.k ≡ k + length (fields_in (drop (at + 4) f)) → StandsAt f next
+    behind_operands next e d = rw (e, d) (operands_on f us ready.accepted (length (fields_in (drop (at + 4) f))) (at + 4) k refl behind_step)
 
     pub reads_law : (r₀ r₁ r₂ r₃ : List ℕ) → length r₀ ≡ 8 → r₁ ≡ put r₀ 0 (replicate 8 0)
-        → r₂ ≡ read_abis (eqb (get_or t 0 0) 7) (get_or t 1 0) f found (callee_in tb (get_or t 3 0)) own r₁ → r₃ ≡ marks (read_in fields) found k (fields_in os) r₂
+        → r₂ ≡ read_abis head.ends head.op f found (callee_in tb head.callee) own r₁
+        → r₃ ≡ marks (read_in (row_word (row_by head.ends head.op head.sub))) found k (fields_in (drop (at + 4) f)) r₂
         → r₃ ≡ unit_row one us (reads one (program one f) fn (step_from f at))
     reads_law r₀ r₁ r₂ r₃ l a d e =
-        rw (e, d, a, cleared r₀ l, row, step_is, operands_are)
-        (reads_are f us found tb ready short fn own (get_or t 2 0) (get_or t 3 0) (at + 4) k low stands_own owns behind_step (eqb (get_or t 0 0) 7) (get_or t 1 0))
+        rw (e, d, a, cleared r₀ l, step_is)
+        (reads_are f us found tb ready short fn own head.sub head.callee (at + 4) k low stands_own owns behind_step head.ends head.op)
 
     pub writes_law : (w₀ w₁ w₂ w₃ : List ℕ) → length w₀ ≡ 8 → w₁ ≡ put w₀ 0 (replicate 8 0)
-        → w₂ ≡ written_abis (eqb (get_or t 0 0) 7) (get_or t 1 0) f found (callee_in tb (get_or t 3 0)) w₁
-        → w₃ ≡ marks (written_in fields (eqb (get_or t 0 0) 7)) found k (fields_in os) w₂
+        → w₂ ≡ written_abis head.ends head.op f found (callee_in tb head.callee) w₁
+        → w₃ ≡ marks (written_in (row_word (row_by head.ends head.op head.sub)) head.ends) found k (fields_in (drop (at + 4) f)) w₂
         → w₃ ≡ unit_row one us (writes one (program one f) (step_from f at))
     writes_law w₀ w₁ w₂ w₃ l a d e =
-        rw (e, d, a, cleared w₀ l, row, step_is, operands_are)
-        (writes_are f us found tb ready short fn own (get_or t 2 0) (get_or t 3 0) (at + 4) k low stands_own owns behind_step (eqb (get_or t 0 0) 7) (get_or t 1 0))
+        rw (e, d, a, cleared w₀ l, step_is)
+        (writes_are f us found tb ready short fn own head.sub head.callee (at + 4) k low stands_own owns behind_step head.ends head.op)

@@ -8,6 +8,8 @@ use Rattle.records.specs.Check.{records}
 use Rattle.records.specs.Program.{gather}
 use Rattle.units.specs.Uses.{is_parameter, is_result, is_outcome}
 use Rattle.units.specs.declared.cursor.Cursor.{Cursor}
+use Rattle.units.specs.declared.uses.Roles.{Roles}
+use Rattle.units.specs.declared.uses.Roles.TheVariants.{Parameters, Results, Outcomes}
 
 -- A unit's number goes into a row where it is wanted; a number past the last is no unit's.
 unfoldable pub jotted : Bool → ℕ → List ℕ → List ℕ
@@ -34,8 +36,10 @@ unfoldable pub opens_seven : List ℕ → ℕ → Bool
 opens_seven t kind = leb 7 (length t) and eqb (u8_at t 0) kind
 
 -- The roles that are wanted: parameters, results, or all but parameters.
-unfoldable pub wanted_by : ℕ → ℕ → Bool
-wanted_by which role = pick (eqb which 0) (is_parameter role) (pick (eqb which 1) (is_result role) (is_outcome role))
+unfoldable pub wanted_by : Roles → ℕ → Bool
+wanted_by Parameters role = is_parameter role
+wanted_by Results role = is_result role
+wanted_by Outcomes role = is_outcome role
 
 -- The flags of a field, by a row's word.
 unfoldable pub read_in : ℕ → ℕ → Bool
@@ -56,11 +60,11 @@ takes_abis ends op = pick ends (eqb op 3 or eqb op 5) (eqb op 27)
 unfoldable pub read_source : Bool → ℕ → Cursor → Cursor → Cursor
 read_source ends op callee own = pick ends (pick (eqb op 5) own callee) callee
 
-unfoldable pub read_role : Bool → ℕ → ℕ
-read_role ends op = pick ends (pick (eqb op 5) 1 0) 0
+unfoldable pub read_role : Bool → ℕ → Roles
+read_role ends op = pick ends (pick (eqb op 5) Results Parameters) Parameters
 
 -- A row with the units of the ABI records that stand at a cursor and are wanted.
-abbrev pub abi_marks : ℕ → List ℕ → List ℕ → Cursor → List ℕ → List ℕ
+abbrev pub abi_marks : Roles → List ℕ → List ℕ → Cursor → List ℕ → List ℕ
 abi_marks which f ns c row = marks (wanted_by which) ns c.k (roles_in (drop c.at f)) row
 
 -- A row with the units of the ABI records that a step reads, and one with those that it writes: Call alone writes, what its callee leaves and clobbers.
@@ -68,4 +72,4 @@ unfoldable pub read_abis : Bool → ℕ → List ℕ → List ℕ → Cursor →
 read_abis ends op f ns callee own row = pick (takes_abis ends op) (abi_marks (read_role ends op) f ns (read_source ends op callee own) row) row
 
 unfoldable pub written_abis : Bool → ℕ → List ℕ → List ℕ → Cursor → List ℕ → List ℕ
-written_abis ends op f ns callee row = pick (takes_abis ends op) (pick ends row (abi_marks 2 f ns callee row)) row
+written_abis ends op f ns callee row = pick (takes_abis ends op) (pick ends row (abi_marks Outcomes f ns callee row)) row

@@ -2,12 +2,11 @@
 ghost use Rattle.std.specs.Prelude.{◌≡◌, ◌/◌, ◌%◌, ◌≤◌, length};
 ghost use Rattle.rows.specs.Row.{pack};
 ghost use Rattle.fields.specs.Pick.{pick, has};
-ghost use Rattle.records.specs.Program.{empty, step_of};
 ghost use Rattle.units.specs.Uses.{effect};
 ghost use Rattle.units.specs.Along.{step_from};
 ghost use Rattle.units.specs.Seek.{Seeks, Shows, storages_below};
 
-use crate::cursor::Cursor;
+use crate::head::head_of;
 use crate::locate::{Site, locate};
 use crate::numbered::Numbered;
 use records::Refusal;
@@ -93,29 +92,16 @@ pub fn storages_of(words: &[u32], units: &[u64], row: &mut [u64])
     }
 }
 
-// Steps that may not be dropped though nothing reads what they write.
-fn effect_of(ends: bool, op: u8, sub: u8) -> bool
-    ensures { result ≡ effect (step_of ends op sub 0 empty) }
-{
-    if ends {
-        return false;
-    }
-    if op == 10 {
-        return true;
-    }
-    if op == 26 {
-        return 1 <= sub && sub <= 4;
-    }
-    if op <= 15 {
-        return 12 <= op;
-    }
-    27 <= op && op <= 29
-}
-
-// May the step whose record stands at the front of a tail not be dropped?
+// May the step whose record stands at the front of a tail not be dropped though nothing reads what it writes?
+#[tactic(auto, unfolding(crate::specs::Uses::effect, fields::specs::Pick::pick))]
 pub fn has_effect(tail: &[u8]) -> bool
     requires { 4 ≤ length tail.now }
     ensures { result ≡ effect (step_from tail.now 0) }
 {
-    effect_of(tail[0] == 7, tail[1], tail[2])
+    let head = head_of(tail);
+    match (head.ends, head.op) {
+        (true, _) => false,
+        (false, 10 | 12..=15 | 27..=29) => true,
+        (false, op) => op == 26 && 1 <= head.sub && head.sub <= 4,
+    }
 }

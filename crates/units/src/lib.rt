@@ -4,6 +4,7 @@
 
 mod ask;
 pub mod cursor;
+mod head;
 pub mod locate;
 pub mod numbered;
 pub mod uses;

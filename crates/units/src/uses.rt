@@ -1,5 +1,5 @@
 // What a step reads and writes, as two rows of units, in one visit to its record and operands.
-ghost use Rattle.std.specs.Prelude.{◌≡◌, List, ℕ, ◌+◌, ◌*◌, ◌≤◌, ◌<◌, length, get_or, drop};
+ghost use Rattle.std.specs.Prelude.{◌≡◌, List, ℕ, ◌+◌, ◌*◌, ◌≤◌, ◌<◌, length, drop};
 ghost use Rattle.rows.specs.Row.{with_at};
 ghost use Rattle.fields.specs.Pick.{pick};
 ghost use Rattle.fields.specs.Table.{row_word};
@@ -8,9 +8,10 @@ ghost use Rattle.records.specs.Program.{Function, program, row_by};
 ghost use Rattle.units.specs.Uses.{reads as reads_of, writes as writes_of};
 ghost use Rattle.units.specs.Rows.{unit_row};
 ghost use Rattle.units.specs.Along.{from, step_from, IsStep, StandsAt, Sound, SoundSite, Sane, Ready};
-ghost use Rattle.units.specs.Marks.{jotted, marks, Behind, roles_in, fields_in, opens_seven, wanted_by, read_in, written_in, callee_in, takes_abis, read_source, read_role, read_abis, written_abis};
+ghost use Rattle.units.specs.Marks.{jotted, marks, abi_marks, fields_in, wanted_by, read_in, written_in, callee_in, takes_abis, read_source, read_role, read_abis, written_abis};
 
 use crate::cursor::Cursor;
+use crate::head::{Head, head_of};
 use crate::locate::Site;
 use crate::numbered::Numbered;
 use fields::bytes::tail_of;
@@ -19,30 +20,33 @@ use fields::table::{end_entry_of, entry_of, field_in};
 // The fields of a table's entry, without the count in its highest byte.
 const ABOVE: u64 = 0x0100_0000_0000_0000;
 
-// Which ABI records are wanted.
-const PARAMETERS: u8 = 0;
+// The ABI records that are wanted: the parameters, the results, or all that a call leaves behind it.
+#[derive(Clone, Copy)]
+enum Roles {
+    Parameters,
+    Results,
+    Outcomes,
+}
 
-const RESULTS: u8 = 1;
-
-const OUTCOMES: u8 = 2;
-
-// A unit's number goes into a row where it is wanted.
-fn put(row: &mut [u64], n: u16, wanted: bool)
-    requires { (length row.old ≡ 8) × (n < 512) }
-    ensures { row.new ≡ pick wanted (with_at row.old 0 n) row.old }
+#[tactic(auto, unfolding(crate::specs::Marks::wanted_by, fields::specs::Pick::pick))]
+fn wanted(role: u8, which: Roles) -> bool
+    ensures { result ≡ wanted_by which role }
 {
-    if wanted {
-        rows::insert(row, 0, n as usize);
+    match which {
+        Roles::Parameters => role == 0,
+        Roles::Results => role == 1,
+        Roles::Outcomes => role != 0,
     }
 }
 
-// The same of a number that may be past the last, where it is no unit's.
+// A unit's number goes into a row where it is wanted; a number past the last is no unit's.
+#[tactic(auto, unfolding(crate::specs::Marks::jotted, fields::specs::Pick::pick))]
 fn note(row: &mut [u64], n: u16, wanted: bool)
     requires { length row.old ≡ 8 }
     ensures { row.new ≡ jotted wanted n row.old }
 {
-    if n < 512 {
-        put(row, n, wanted);
+    if wanted && n < 512 {
+        rows::insert(row, 0, n as usize);
     }
 }
 
@@ -51,90 +55,66 @@ fn rest_of(file: &[u8], at: usize) -> &[u8]
     ensures { result.now ≡ drop at file.now }
 {
     if file.len() < at {
-        return tail_of(file, file.len());
+        return &[];
     }
     tail_of(file, at)
 }
 
-// A whole record of seven bytes and of this kind stands at the front of a tail.
-fn opens_seven(tail: &[u8], kind: u8) -> bool
-    ensures { result ≡ opens_seven tail.now kind }
+// The units of the ABI records at a cursor whose roles are wanted.
+fn abi_row(source: Numbered, c: Cursor, which: Roles, row: &mut [u64])
+    requires sound { Sound c }
+    requires wide { length row.old ≡ 8 }
+    ensures { row.new ≡ abi_marks which source.entry.file.now source.entry.numbers.now c row.old }
 {
-    if tail.len() < 7 {
-        return false;
-    }
-    tail[0] == kind
-}
-
-fn wanted(role: u8, which: u8) -> bool
-    ensures { result ≡ wanted_by which role }
-{
-    if which == PARAMETERS {
-        return role == 0;
-    }
-    if which == RESULTS {
-        return role == 1;
-    }
-    if role == 0 {
-        return false;
-    }
-    true
-}
-
-// The units of the ABI records at the front of a tail whose roles are wanted; their numbers stand from k on.
-fn abi_row(tail: &[u8], numbers: &[u16], k: usize, which: u8, row: &mut [u64])
-    requires { Behind k tail.now × (2341 ≤ length numbers.now) × (length row.old ≡ 8) }
-    ensures { row.new ≡ marks (wanted_by which) numbers.now k (roles_in tail.now) row.old }
-{
-    let mut at = 0;
-    let mut n = k;
-    while opens_seven(tail_of(tail, at), 3) {
-        note(row, numbers[n], wanted(tail[at + 1], which));
-        at += 7;
-        n += 1;
+    let mut tail = rest_of(source.file, c.at);
+    let mut k = c.k;
+    while let [3, role, _, _, _, _, _, ..] = tail {
+        note(row, source.numbers[k], wanted(*role, which));
+        tail = tail_of(tail, 7);
+        k += 1;
     }
 }
 
 // An operand's unit number goes into the rows by the flags of its field; a terminator writes none.
+#[tactic(auto, unfolding(crate::specs::Marks::read_in, crate::specs::Marks::written_in, fields::specs::Pick::pick))]
 fn note_operand(reads: &mut [u64], writes: &mut [u64], n: u16, fields: u64, ends: bool, field: u8)
     requires { (length reads.old ≡ 8) × (length writes.old ≡ 8) }
     ensures { (reads.new ≡ jotted (read_in fields field) n reads.old)
         × (writes.new ≡ jotted (written_in fields ends field) n writes.old) }
 {
-    if 512 <= n {
-        return;
-    }
-    let b = field_in(fields, field);
-    put(reads, n, b / 64 % 2 == 1);
-    if ends {
-        return;
-    }
-    put(writes, n, b / 32 % 2 == 1);
+    let flags = field_in(fields, field);
+    note(reads, n, flags / 64 % 2 == 1);
+    note(writes, n, !ends && flags / 32 % 2 == 1);
 }
 
-// The units of the operands at the front of a tail, by the fields of a row; their numbers stand from k on. Answers how many operands there are.
+// The units of the operands at a cursor, by the fields of their step. Answers the cursor behind them.
 fn operand_rows(
-    tail: &[u8],
-    numbers: &[u16],
-    k: usize,
-    fields: u64,
-    ends: bool,
+    source: Numbered,
+    c: Cursor,
+    head: Head,
     reads: &mut [u64],
     writes: &mut [u64],
-) -> usize
-    requires { Behind k tail.now × (2341 ≤ length numbers.now) × (length reads.old ≡ 8) × (length writes.old ≡ 8) }
-    ensures { (result ≡ length (fields_in tail.now)) × (7 * result ≤ length tail.now)
-        × (reads.new ≡ marks (read_in fields) numbers.now k (fields_in tail.now) reads.old)
-        × (writes.new ≡ marks (written_in fields ends) numbers.now k (fields_in tail.now) writes.old) }
+) -> Cursor
+    requires sound { Sound c × (c.at ≤ length source.file.now) }
+    requires rows { (length reads.old ≡ 8) × (length writes.old ≡ 8) }
+    ensures fits { result.at ≤ length source.entry.file.now }
+    ensures at { result.at ≡ c.at + 7 * length (fields_in (drop c.at source.entry.file.now)) }
+    ensures k { result.k ≡ c.k + length (fields_in (drop c.at source.entry.file.now)) }
+    ensures reads { reads.new ≡ marks (read_in (row_word (row_by head.ends head.op head.sub))) source.entry.numbers.now c.k (fields_in (drop c.at source.entry.file.now)) reads.old }
+    ensures writes { writes.new ≡ marks (written_in (row_word (row_by head.ends head.op head.sub)) head.ends) source.entry.numbers.now c.k (fields_in (drop c.at source.entry.file.now)) writes.old }
 {
-    let mut at = 0;
-    let mut n = k;
-    while opens_seven(tail_of(tail, at), 6) {
-        note_operand(reads, writes, numbers[n], fields, ends, tail[at + 1]);
-        at += 7;
-        n += 1;
+    let fields = fields_of(head);
+    let mut tail = tail_of(source.file, c.at);
+    let mut k = c.k;
+    while let [6, field, _, _, _, _, _, ..] = tail {
+        note_operand(reads, writes, source.numbers[k], fields, head.ends, *field);
+        tail = tail_of(tail, 7);
+        k += 1;
     }
-    n - k
+    Cursor {
+        at: source.file.len() - tail.len(),
+        k,
+    }
 }
 
 // The cursor behind the record of function n; far behind every file where there is none.
@@ -149,94 +129,57 @@ fn callee_at(source: Numbered, n: u8) -> Cursor
 }
 
 // Whether a step takes ABI records: TailCall, Return, Call.
-fn takes_abis(ends: bool, op: u8) -> bool
-    ensures { result ≡ takes_abis ends op }
+#[tactic(auto, unfolding(crate::specs::Marks::takes_abis, fields::specs::Pick::pick))]
+fn takes_abis(head: Head) -> bool
+    ensures { result ≡ takes_abis head.ends head.op }
 {
-    if ends {
-        if op == 3 {
-            return true;
-        }
-        return op == 5;
+    match (head.ends, head.op) {
+        (true, op) => op == 3 || op == 5,
+        (false, op) => op == 27,
     }
-    op == 27
 }
 
-// Whose ABI records such a step reads: Return those of its own function, a call the callee's.
-fn read_source(ends: bool, op: u8, callee: Cursor, own: Cursor) -> Cursor
-    ensures { result ≡ read_source ends op callee own }
+// Whose ABI records such a step reads, and which: Return the results of its own function, a call the callee's parameters.
+#[tactic(auto, unfolding(crate::specs::Marks::read_source, crate::specs::Marks::read_role, fields::specs::Pick::pick))]
+fn read_from(head: Head, callee: Cursor, own: Cursor) -> (Cursor, Roles)
+    requires { Sound callee × Sound own }
+    ensures source { result.0 ≡ read_source head.ends head.op callee own }
+    ensures role { result.1 ≡ read_role head.ends head.op }
+    ensures sound { Sound result.0 }
 {
-    if ends {
-        if op == 5 {
-            return own;
-        }
+    match (head.ends, head.op) {
+        (true, 5) => (own, Roles::Results),
+        _ => (callee, Roles::Parameters),
     }
-    callee
 }
 
-fn read_role(ends: bool, op: u8) -> u8
-    ensures { result ≡ read_role ends op }
+// The units of the ABI records that a step reads and writes. Most steps take none, and TailCall and Return write none.
+#[tactic(auto, unfolding(crate::specs::Marks::read_abis, crate::specs::Marks::written_abis, fields::specs::Pick::pick))]
+fn abi_rows(source: Numbered, own: Cursor, head: Head, reads: &mut [u64], writes: &mut [u64])
+    requires own { Sound own }
+    requires rows { (length reads.old ≡ 8) × (length writes.old ≡ 8) }
+    ensures reads { reads.new ≡ read_abis head.ends head.op source.entry.file.now source.entry.numbers.now (callee_in source.entry.table.now head.callee) own reads.old }
+    ensures writes { writes.new ≡ written_abis head.ends head.op source.entry.file.now source.entry.numbers.now (callee_in source.entry.table.now head.callee) writes.old }
 {
-    if ends {
-        if op == 5 {
-            return RESULTS;
-        }
+    if !takes_abis(head) {
+        return;
     }
-    PARAMETERS
-}
-
-// The units of the ABI records that a step reads and writes, where n is the callee. Most steps take none, and TailCall and Return write none.
-fn abi_rows(
-    source: Numbered,
-    own: Cursor,
-    ends: bool,
-    op: u8,
-    n: u8,
-    reads: &mut [u64],
-    writes: &mut [u64],
-)
-    requires { Sound own × (length reads.old ≡ 8) × (length writes.old ≡ 8) }
-    ensures { (reads.new ≡ read_abis ends op source.entry.file.now source.entry.numbers.now (callee_in source.entry.table.now n) own reads.old)
-        × (writes.new ≡ written_abis ends op source.entry.file.now source.entry.numbers.now (callee_in source.entry.table.now n) writes.old) }
-{
-    if takes_abis(ends, op) {
-        let callee = callee_at(source, n);
-        let read = read_source(ends, op, callee, own);
-        abi_row(
-            rest_of(source.file, read.at),
-            source.numbers,
-            read.k,
-            read_role(ends, op),
-            reads,
-        );
-        if ends {
-            return;
-        }
-        abi_row(
-            rest_of(source.file, callee.at),
-            source.numbers,
-            callee.k,
-            OUTCOMES,
-            writes,
-        );
+    let callee = callee_at(source, head.callee);
+    let (whose, which) = read_from(head, callee, own);
+    abi_row(source, whose, which, reads);
+    if !head.ends {
+        abi_row(source, callee, Roles::Outcomes, writes);
     }
 }
 
 // The fields of a step; none of a call and of Return.
-fn fields_of(ends: bool, op: u8, sub: u8) -> u64
-    ensures { result ≡ row_word (row_by ends op sub) }
+fn fields_of(head: Head) -> u64
+    ensures { result ≡ row_word (row_by head.ends head.op head.sub) }
 {
-    if ends {
-        return end_entry_of(op, sub) % ABOVE;
+    if head.ends {
+        return end_entry_of(head.op, head.sub) % ABOVE;
     }
-    entry_of(op) % ABOVE
-}
-
-// The number of the function that a step calls.
-fn callee_of(tail: &[u8]) -> u8
-    requires { 4 ≤ length tail.now }
-    ensures { result ≡ get_or tail.now 3 0 }
-{
-    tail[3]
+    entry_of(head.op) % ABOVE
 }
 
 impl Numbered<'_> {
@@ -255,19 +198,14 @@ impl Numbered<'_> {
     {
         rows::clear(reads, 0, 8);
         rows::clear(writes, 0, 8);
-        let here = site.here;
-        let tail = tail_of(self.file, here.at);
-        let ends = tail[0] == 7;
-        let op = tail[1];
-        let callee = callee_of(tail);
-        abi_rows(self, site.own, ends, op, callee, reads, writes);
-        let fields = fields_of(ends, op, tail[2]);
-        let operands = tail_of(tail, 4);
-        let count = operand_rows(operands, self.numbers, here.k, fields, ends, reads, writes);
-        Cursor {
-            at: here.at + 4 + 7 * count,
-            k: here.k + count,
-        }
+        let Site { own, here } = site;
+        let head = head_of(tail_of(self.file, here.at));
+        abi_rows(self, own, head, reads, writes);
+        let behind = Cursor {
+            at: here.at + 4,
+            k: here.k,
+        };
+        operand_rows(self, behind, head, reads, writes)
     }
 }
 

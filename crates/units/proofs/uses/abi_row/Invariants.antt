@@ -1,14 +1,15 @@
--- What is left to mark, onto the row so far, comes to what the contract says; the records at a place of the tail are one more and those behind it.
+-- What is left to mark, onto the row so far, comes to what the contract says.
 -- The measure is what is left of the tail.
-use mathlib.Core.Path.{◌≡◌}
-use Prim.Native.Nat.{◌+◌, ◌*◌, ◌-◌, ◌≤◌}
-use lib.ListN.{length, drop}
-use Rattle.units.specs.Marks.{marks, roles_in, wanted_by}
+use Rattle.std.proofs.Common.{◌≡◌, length}
+use Rattle.units.specs.Marks.{marks, abi_marks, wanted_by, roles_in, Behind}
 use Rattle.units.proofs.uses.abi_row.Given as goal
 
-abbrev pub invariant-loop-row : goal.invariant-loop-row
-invariant-loop-row l = (length l.row ≡ 8) × (l.at ≤ length l.tail) × (7 * l.n ≡ 7 * l.k + l.at)
-    × (marks (wanted_by l.which) l.numbers l.n (roles_in (drop l.at l.tail)) l.row ≡ marks (wanted_by l.which) l.numbers l.k (roles_in l.tail) l.initial.row)
+abbrev pub invariant-loop-tail : goal.invariant-loop-tail
+invariant-loop-tail l = record {
+  wide : length l.row ≡ 8;
+  behind : Behind l.k l.tail;
+  marked : marks (wanted_by l.which) l.source.numbers.now l.k (roles_in l.tail) l.row ≡ abi_marks l.which l.source.file.now l.source.numbers.now l.fn.c l.initial.row;
+}
 
-abbrev pub decreases-loop-row : goal.decreases-loop-row
-decreases-loop-row l = length l.tail - l.at
+abbrev pub decreases-loop-tail : goal.decreases-loop-tail
+decreases-loop-tail l = length l.tail

@@ -3,8 +3,8 @@
 use Rattle.units.proofs.Using.{end_row_of, row_of_lem}
 use Rattle.units.proofs.uses.fields_of.Goals as goal
 
-pub returns-then-ends : goal.returns-then-ends
-returns-then-ends c = rw c.if-ends.true (end_row_of _ _ _ c.end_entry_of.ensures)
+pub returns-then-head : goal.returns-then-head
+returns-then-head c = rw c.if-head.true (end_row_of _ _ _ c.end_entry_of.ensures)
 
 pub returns : goal.returns
-returns c = rw c.if-ends.false (row_of_lem _ c.args.sub _ c.entry_of.ensures)
+returns c = rw c.if-head.false (row_of_lem _ c.args.head.sub _ c.entry_of.ensures)

@@ -1,51 +1,28 @@
--- Each call fills its part of the rows, and the law of `Using` says what they come to in an accepted file.
+-- Each call fills its part of the rows, and the laws of `Using` say what they come to in an accepted file.
 -- The cursor behind the operands is the step's own, on by as many operands as the walk over them met.
-use Prim.Native.Nat.{◌<◌}
-use lib.ListN.{get_or}
+use Prim.Native.Nat.{◌+◌, ◌<◌}
 use native.Mathlib.Omega.{arith}
-use Rattle.units.proofs.Using.{operands_count, behind_operands, reads_law, writes_law}
+use lib.ListN.{drop}
+use Rattle.units.proofs.Filling.{fields_count}
+use Rattle.units.proofs.Using.{behind_operands, reads_law, writes_law}
 use Rattle.units.proofs.numbered.Numbered.uses_at.Goals as goal
 
-pub abi_rows-requires : goal.abi_rows-requires
-abi_rows-requires c =
-    (c.requires.site.0, omega (arith, c.requires.rows.0), omega (arith, c.requires.site.1))
+pub returns-clause-behind : goal.returns-clause-behind
+returns-clause-behind c =
+    omega (arith, c.operand_rows.ensures.at, fields_count (drop (c.args.site.here.at + 4) c.args.self.file.now))
 
-pub operand_rows-count-requires : goal.operand_rows-count-requires
-operand_rows-count-requires c = (
-  omega (arith, c.tail_of-operands.ensures.1, c.tail_of-tail.ensures.1, c.args.self.short, c.requires.site.1),
-  c.args.self.enough,
-  omega (arith, c.requires.rows.0),
-  omega (arith, c.requires.rows.1),
-)
-
-pub overflow_add-result : goal.overflow_add-result
-overflow_add-result c =
-    omega (arith, c.operand_rows-count.ensures.1, c.tail_of-operands.ensures.1, c.tail_of-tail.ensures.1, c.args.self.short, c.requires.site.1, c.requires.site.2)
-
-pub overflow_add-result-2 : goal.overflow_add-result-2
-overflow_add-result-2 c =
-    omega (arith, c.operand_rows-count.ensures.1, c.tail_of-operands.ensures.1, c.tail_of-tail.ensures.1, c.args.self.short, c.requires.site.1, c.requires.site.2)
-
-pub overflow_add-result-3 : goal.overflow_add-result-3
-overflow_add-result-3 c =
-    omega (arith, c.operand_rows-count.ensures.1, c.tail_of-operands.ensures.1, c.tail_of-tail.ensures.1, c.args.self.short, c.requires.site.1, c.requires.site.2)
-
-pub shape_of-reads : goal.shape_of-reads
-shape_of-reads c =
-    omega (arith, c.requires.rows.0)
-
-pub returns : goal.returns
-returns c =
-    let n = c.operand_rows-count.ensures in
-    let q = c.tail_of-operands.ensures in
-    let p = c.tail_of-tail.ensures in
-    let g = c.fields_of-fields in
-    let low : get_or c.tail_of-tail.result.now 3 0 < 256 = omega (arith, c.callee_of-callee.ensures, c.callee_of-callee.type_inv) in record {
-      sound = (omega (arith, c.requires.site.1), omega arith, omega (arith, n.1, q.1, p.1));
-      behind = omega (arith, operands_count c.args.self.file.now _ _ c.args.site.here.at p.0 q.0 _ n.0);
-      uses = λ us f rd so owns sh is. (
-        reads_law c.args.self.file.now _ _ c.args.site.here.at p.0 q.0 c.args.self.numbers.now c.args.self.table.now c.args.site.here.k c.args.site.own c.args.self.short c.requires.site.2 low g.result g.ensures us f rd so owns sh is _ _ _ _ c.requires.rows.0 c.clear.ensures (rw c.callee_of-callee.ensures at c.abi_rows.ensures.0) n.2,
-        writes_law c.args.self.file.now _ _ c.args.site.here.at p.0 q.0 c.args.self.numbers.now c.args.self.table.now c.args.site.here.k c.args.site.own c.args.self.short c.requires.site.2 low g.result g.ensures us f rd so owns sh is _ _ _ _ c.requires.rows.1 c.clear-2.ensures (rw c.callee_of-callee.ensures at c.abi_rows.ensures.1) n.3,
-        behind_operands c.args.self.file.now _ _ c.args.site.here.at p.0 q.0 c.args.self.numbers.now c.args.self.table.now c.args.site.here.k c.args.site.own c.args.self.short c.requires.site.2 low g.result g.ensures us f rd so owns sh is _ n.0,
-      );
-    }
+pub returns-clause-uses : goal.returns-clause-uses
+returns-clause-uses c =
+    let f = c.args.self.file.now in
+    let site = c.args.site in
+    let t = c.tail_of.ensures.0 in
+    let h = c.head_of-head.ensures in
+    let s = c.args.self.short in
+    let a = c.abi_rows.ensures in
+    let o = c.operand_rows.ensures in
+    let low : c.head_of-head.result.callee < 256 = omega (arith, c.head_of-head.type_inv) in
+    λ us fn ready owns same here is. (
+      reads_law f _ site.here.at t _ h.ends h.op h.sub h.callee _ _ site.here.k site.own s c.requires.site.2 low us fn ready owns same here is _ _ _ _ c.requires.rows.0 c.clear.ensures a.reads o.reads,
+      writes_law f _ site.here.at t _ h.ends h.op h.sub h.callee _ _ site.here.k site.own s c.requires.site.2 low us fn ready owns same here is _ _ _ _ c.requires.rows.1 c.clear-2.ensures a.writes o.writes,
+      behind_operands f _ site.here.at t _ h.ends h.op h.sub h.callee _ _ site.here.k site.own s c.requires.site.2 low us fn ready owns same here is _ o.at o.k,
+    )
