@@ -16,7 +16,7 @@ ghost use Rattle.liveness.specs.Settle.{liveness};
 ghost use Rattle.liveness.specs.Walks.{Owned};
 ghost use Rattle.liveness.specs.Lives.{live_words, lived_by, LivesIn, Lives};
 
-use crate::survey::survey;
+use crate::survey::{Findings, survey};
 use passes::settle;
 use records::{Refusal, number_units};
 use units::cursor::Cursor;
@@ -46,31 +46,16 @@ fn passes_of(file: &[u8], numbers: &[u16], table: &[u16], own: Cursor, live: &mu
         → fn.abis ≡ (from file.now own.at).abis → fn.blocks ≡ (from file.now own.at).blocks
         → (result ≡ (liveness one (program one file.now) fn).passes) × (live.new ≡ live_words one us (liveness one (program one file.now) fn).sets) }
 {
-    let mut gens = [0u64; 1024];
-    let mut kills = [0u64; 1024];
-    let mut targets = [0u16; 5462];
-    let mut starts = [0u16; 129];
-    let mut reads = [0u64; 520];
-    let mut writes = [0u64; 520];
-    let mut places = [0u16; 4097];
-    let mut counts = [0u16; 4097];
-    let mut firsts = [0u16; 129];
-    let s = survey(
-        file,
-        numbers,
-        table,
-        own,
-        &mut gens,
-        &mut kills,
-        &mut targets,
-        &mut starts,
-        &mut reads,
-        &mut writes,
-        &mut places,
-        &mut counts,
-        &mut firsts,
-    );
-    settle(live, &gens, &kills, &targets, &starts, s.blocks)
+    let mut findings = Findings::new();
+    let s = survey(file, numbers, table, own, &mut findings);
+    settle(
+        live,
+        &findings.gens,
+        &findings.kills,
+        &findings.steps.targets,
+        &findings.starts,
+        s.blocks,
+    )
 }
 
 // The live sets of a function of a file whose units are numbered.

@@ -24,6 +24,49 @@ const ROW: usize = 8;
 // The rows of so many steps of a function are kept; those of every later step are written behind them, one over the other.
 pub const KEPT: usize = 64;
 
+// What the survey notes of a function's steps, one behind the other.
+#[derive(Drop)]
+pub struct Steps {
+    // The targets of each block's last step, one block's behind the other's.
+    pub targets: [u16; 5462],
+    // Where each step's record begins, and how many unit numbers come before it.
+    pub places: [u16; 4097],
+    pub counts: [u16; 4097],
+    // Of each step that is kept the row of units that it reads and the row of those that it writes.
+    pub reads: [u64; 520],
+    pub writes: [u64; 520],
+}
+
+// What the survey notes of a function. No number that an earlier function left is read, so one serves all functions of a file.
+#[derive(Drop)]
+pub struct Findings {
+    // Of each block the row of units that it reads before it writes them, and the row of those that it writes.
+    pub gens: [u64; 1024],
+    pub kills: [u64; 1024],
+    // How many targets, and how many steps, come before each block.
+    pub starts: [u16; 129],
+    pub firsts: [u16; 129],
+    pub steps: Steps,
+}
+
+impl Findings {
+    pub fn new() -> Self {
+        Findings {
+            gens: [0; 1024],
+            kills: [0; 1024],
+            starts: [0; 129],
+            firsts: [0; 129],
+            steps: Steps {
+                targets: [0; 5462],
+                places: [0; 4097],
+                counts: [0; 4097],
+                reads: [0; 520],
+                writes: [0; 520],
+            },
+        }
+    }
+}
+
 // Where the walk stands: its place, and how many unit numbers, steps and targets come before it.
 #[derive(Clone, Copy)]
 pub struct Walk {
@@ -122,11 +165,11 @@ fn step_rows(
     here: Cursor,
     reads: &mut [u64],
     writes: &mut [u64],
-    born: &mut [u64],
-    dead: &mut [u64],
+    born: &mut [u64; ROW],
+    dead: &mut [u64; ROW],
 ) -> Cursor
     requires { (length file.now ≤ 16384) × (2341 ≤ length numbers.now) × Sane table.now × Sound own × Sound here × (here.at + 4 ≤ length file.now)
-        × (length reads.old ≡ 8) × (length writes.old ≡ 8) × (length born.old ≡ 8) × (length dead.old ≡ 8) }
+        × (length reads.old ≡ 8) × (length writes.old ≡ 8) }
     ensures { Sound result × (here.at + 4 ≤ result.at) × (result.at ≤ length file.now)
         × ((us : List ℕ) (fn : Function) (ss : List Step) → Asked file.now us numbers.now table.now fn own
         → StandsAt file.now here → IsStep file.now here.at
@@ -163,23 +206,16 @@ fn take_record(
     kind: u8,
     w: Walk,
     first: usize,
-    born: &mut [u64],
-    dead: &mut [u64],
-    targets: &mut [u16],
-    reads: &mut [u64],
-    writes: &mut [u64],
-    places: &mut [u16],
-    counts: &mut [u16],
+    born: &mut [u64; ROW],
+    dead: &mut [u64; ROW],
+    notes: &mut Steps,
 ) -> Walk
-    requires { (length file.now ≤ 16384) × (2341 ≤ length numbers.now) × Sane table.now × Sound own × Within w × Inner file.now w.at kind × (first ≤ w.targets)
-        × (length born.old ≡ 8) × (length dead.old ≡ 8) × (length targets.old ≡ 5462) × (length reads.old ≡ 520) × (length writes.old ≡ 520) × (length places.old ≡ 4097) × (length counts.old ≡ 4097) }
-    ensures { Taken file.now numbers.now table.now own first
-        born.old dead.old targets.old reads.old writes.old places.old counts.old w
-        born.new dead.new targets.new reads.new writes.new places.new counts.new result }
+    requires { (length file.now ≤ 16384) × (2341 ≤ length numbers.now) × Sane table.now × Sound own × Within w × Inner file.now w.at kind × (first ≤ w.targets) }
+    ensures { Taken file.now numbers.now table.now own first born.old dead.old notes.old w born.new dead.new notes.new result }
 {
     if kind == 8 {
         let t = w.targets;
-        targets[t] = u16_at(file, w.at + 1);
+        notes.targets[t] = u16_at(file, w.at + 1);
         return Walk {
             at: w.at + 3,
             k: w.k,
@@ -196,8 +232,8 @@ fn take_record(
         };
     }
     let s = w.steps;
-    places[s] = w.at as u16;
-    counts[s] = w.k as u16;
+    notes.places[s] = w.at as u16;
+    notes.counts[s] = w.k as u16;
     let here = Cursor { at: w.at, k: w.k };
     let b = row_for(s);
     let next = step_rows(
@@ -206,8 +242,8 @@ fn take_record(
         table,
         own,
         here,
-        &mut reads[b..b + ROW],
-        &mut writes[b..b + ROW],
+        &mut notes.reads[b..b + ROW],
+        &mut notes.writes[b..b + ROW],
         born,
         dead,
     );
@@ -226,19 +262,13 @@ fn block_records(
     table: &[u16],
     own: Cursor,
     begin: Walk,
-    born: &mut [u64],
-    dead: &mut [u64],
-    targets: &mut [u16],
-    reads: &mut [u64],
-    writes: &mut [u64],
-    places: &mut [u16],
-    counts: &mut [u16],
+    born: &mut [u64; ROW],
+    dead: &mut [u64; ROW],
+    notes: &mut Steps,
 ) -> Walk
-    requires { (length file.now ≤ 16384) × (2341 ≤ length numbers.now) × Sane table.now × Sound own × Within begin × (begin.at ≤ length file.now)
-        × (length born.old ≡ 8) × (length dead.old ≡ 8) × (length targets.old ≡ 5462) × (length reads.old ≡ 520) × (length writes.old ≡ 520) × (length places.old ≡ 4097) × (length counts.old ≡ 4097) }
-    ensures { Walked file.now numbers.now table.now own
-        born.old dead.old targets.old reads.old writes.old places.old counts.old begin
-        born.new dead.new targets.new reads.new writes.new places.new counts.new result × Outer file.now result.at }
+    requires { (length file.now ≤ 16384) × (2341 ≤ length numbers.now) × Sane table.now × Sound own × Within begin × (begin.at ≤ length file.now) }
+    ensures { Walked file.now numbers.now table.now own born.old dead.old notes.old begin born.new dead.new notes.new result
+        × Outer file.now result.at }
 {
     let mut w = begin;
     let mut kind = inner(file, w.at);
@@ -253,11 +283,7 @@ fn block_records(
             begin.targets,
             born,
             dead,
-            targets,
-            reads,
-            writes,
-            places,
-            counts,
+            notes,
         );
         kind = inner(file, w.at);
     }
@@ -272,23 +298,11 @@ fn take_block(
     own: Cursor,
     w: Walk,
     b: usize,
-    gens: &mut [u64],
-    kills: &mut [u64],
-    targets: &mut [u16],
-    starts: &mut [u16],
-    reads: &mut [u64],
-    writes: &mut [u64],
-    places: &mut [u16],
-    counts: &mut [u16],
-    firsts: &mut [u16],
-    ids: &mut [u16],
+    findings: &mut Findings,
+    ids: &mut [u16; BLOCKS],
 ) -> Walk
-    requires { (length file.now ≤ 16384) × (2341 ≤ length numbers.now) × Sane table.now × Sound own × Within w × BlockHere file.now w.at × (b < 128)
-        × (length gens.old ≡ 1024) × (length kills.old ≡ 1024) × (length targets.old ≡ 5462) × (length starts.old ≡ 129)
-        × (length reads.old ≡ 520) × (length writes.old ≡ 520) × (length places.old ≡ 4097) × (length counts.old ≡ 4097) × (length firsts.old ≡ 129) × (length ids.old ≡ 128) × Tallied starts.old firsts.old b w }
-    ensures { Grown file.now numbers.now table.now own
-        gens.old kills.old targets.old starts.old reads.old writes.old places.old counts.old firsts.old ids.old b w
-        gens.new kills.new targets.new starts.new reads.new writes.new places.new counts.new firsts.new ids.new result }
+    requires { (length file.now ≤ 16384) × (2341 ≤ length numbers.now) × Sane table.now × Sound own × Within w × BlockHere file.now w.at × (b < 128) × Tallied findings.old.starts findings.old.firsts b w }
+    ensures { Grown file.now numbers.now table.now own findings.old ids.old b w findings.new ids.new result }
 {
     ids[b] = u16_at(file, w.at + 1);
     let mut born = [0u64; ROW];
@@ -300,13 +314,19 @@ fn take_block(
         targets: w.targets,
     };
     let end = block_records(
-        file, numbers, table, own, begin, &mut born, &mut dead, targets, reads, writes, places,
-        counts,
+        file,
+        numbers,
+        table,
+        own,
+        begin,
+        &mut born,
+        &mut dead,
+        &mut findings.steps,
     );
-    rows::copy_row(gens, b * ROW, &born, 0, ROW);
-    rows::copy_row(kills, b * ROW, &dead, 0, ROW);
-    starts[b + 1] = end.targets as u16;
-    firsts[b + 1] = end.steps as u16;
+    rows::copy_row(&mut findings.gens, b * ROW, &born, 0, ROW);
+    rows::copy_row(&mut findings.kills, b * ROW, &dead, 0, ROW);
+    findings.starts[b + 1] = end.targets as u16;
+    findings.firsts[b + 1] = end.steps as u16;
     let c = Cursor {
         at: end.at,
         k: end.k,
@@ -369,31 +389,21 @@ pub fn survey(
     numbers: &[u16],
     table: &[u16],
     own: Cursor,
-    gens: &mut [u64],
-    kills: &mut [u64],
-    targets: &mut [u16],
-    starts: &mut [u16],
-    reads: &mut [u64],
-    writes: &mut [u64],
-    places: &mut [u16],
-    counts: &mut [u16],
-    firsts: &mut [u16],
+    findings: &mut Findings,
 ) -> Overview
-    requires { (length file.now ≤ 16384) × (2341 ≤ length numbers.now) × Sane table.now × Sound own
-        × (length gens.old ≡ 1024) × (length kills.old ≡ 1024) × (length targets.old ≡ 5462) × (length starts.old ≡ 129)
-        × (length reads.old ≡ 520) × (length writes.old ≡ 520) × (length places.old ≡ 4097) × (length counts.old ≡ 4097) × (length firsts.old ≡ 129) }
-    ensures { Given gens.new kills.new targets.new starts.new result.blocks × Sound result.after
+    requires { (length file.now ≤ 16384) × (2341 ≤ length numbers.now) × Sane table.now × Sound own }
+    ensures { Given findings.new.gens findings.new.kills findings.new.steps.targets findings.new.starts result.blocks × Sound result.after
         × ((us : List ℕ) (fn : Function) → Ready file.now us numbers.now table.now → StandsAt file.now own
         → Memᴰ fn (program one file.now).functions
         → fn.abis ≡ (from file.now own.at).abis → fn.blocks ≡ (from file.now own.at).blocks
-        → Surveyed file.now us fn gens.new kills.new targets.new starts.new reads.new writes.new places.new counts.new firsts.new result.blocks
+        → Surveyed file.now us fn findings.new result.blocks
         × StandsAt file.now result.after
         × ((from file.now result.after.at).functions ≡ (from file.now own.at).functions)
         × ((FunctionHere file.now result.after.at → ⊥) → (from file.now result.after.at).functions ≡ [])) }
 {
     let mut ids = [0u16; BLOCKS];
-    starts[0] = 0;
-    firsts[0] = 0;
+    findings.starts[0] = 0;
+    findings.firsts[0] = 0;
     let c = seek(file, own, true);
     let mut w = Walk {
         at: c.at,
@@ -403,13 +413,10 @@ pub fn survey(
     };
     let mut b = 0;
     while at_block(file, w.at, b) {
-        w = take_block(
-            file, numbers, table, own, w, b, gens, kills, targets, starts, reads, writes, places,
-            counts, firsts, &mut ids,
-        );
+        w = take_block(file, numbers, table, own, w, b, findings, &mut ids);
         b += 1;
     }
-    number_targets(&ids, b, targets, w.targets);
+    number_targets(&ids, b, &mut findings.steps.targets, w.targets);
     let c = Cursor { at: w.at, k: w.k };
     let after = seek(file, c, false);
     Overview { blocks: b, after }
