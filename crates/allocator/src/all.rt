@@ -52,11 +52,14 @@ pub fn place_all(
         let opened = place_one(
             list, n, s, graph, copies, app, work, floor, ids, kin, numbers, out, i,
         )?;
-        if let Some(p) = opened {
-            let k = n / 16;
-            let page = list[k];
-            list[k] = put_page(page, n % 16, slot_of(s, p));
-            n += 1;
+        match opened {
+            None => {}
+            Some(p) => {
+                let k = n / 16;
+                let page = list[k];
+                list[k] = put_page(page, n % 16, slot_of(s, p));
+                n += 1;
+            }
         }
         at += 16;
         i += 1;

@@ -41,7 +41,7 @@ draws f before live graph copies units' live' graph' copies' a b r h e p = (
   ap (λ (o : graphs.Outcome). o.copies) h,
 )
 
-pub puts : (f before live graph copies result units' live' graph' copies' result' : List ℕ) (a b : Placing) (r : ℕ)
+pub puts : (f before live graph copies result units' live' graph' copies' result' : List ℕ) (a b : Result Placing Refusal) (r : ℕ)
     → places.Places f before live graph copies result a units' live' graph' copies' result' → a ≡ b → r ≡ placed_of b
     → Puts f before live graph copies result r units' live' graph' copies' result'
 puts f before live graph copies result units' live' graph' copies' result' a b r h e p = (

@@ -7,7 +7,6 @@ use Rattle.records.specs.declared.Refusal.{Refusal}
 use Rattle.units.specs.Ask.{Query, asked, told}
 use Rattle.allocator.specs.Placing as places
 use Rattle.allocator.specs.declared.Placing.{Placing}
-use Rattle.allocator.specs.declared.Placing.TheVariants as placing
 use Rattle.graph.specs.Graphs as graphs
 use Rattle.liveness.specs.Lives as lives
 
@@ -37,9 +36,9 @@ summed_of (Ok n) = n % 4294967296
 summed_of (Err r) = packed r
 
 -- From the low end: 9 bits for the storages placed, 9 for the slots opened and 14 for the passes, each of which an accepted file keeps below its limit.
-abbrev pub placed_of : Placing → ℕ
-placed_of (placing.Done placed slots passes) = (passes % 16384) * 262144 + (slots % 512) * 512 + placed % 512
-placed_of (placing.Refused r) = packed r
+abbrev pub placed_of : Result Placing Refusal → ℕ
+placed_of (Ok p) = (p.passes % 16384) * 262144 + (p.slots % 512) * 512 + p.placed % 512
+placed_of (Err r) = packed r
 
 -- The number and the buffers afterwards are those of the operation's one outcome.
 abbrev pub Answers : List ℕ → List ℕ → ℕ → List ℕ → Type 0

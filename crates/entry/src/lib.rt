@@ -8,10 +8,7 @@ ghost use Rattle.units.specs.Ask.{read_row, write_row, storage_read_row, storage
 ghost use Rattle.entry.specs.Answer.{packed, filled_of, Answers, Fills, Says, Settles, Draws, Puts};
 
 use allocator::Placing;
-use graph::Graphed;
-use liveness::Lived;
-use records::{Checked, Refusal};
-use units::{Answered, Effect};
+use records::Refusal;
 
 fn pack(r: Refusal) -> u64
     ensures { result ≡ packed r }
@@ -119,11 +116,13 @@ pub fn place_file(
         units.new live.new graph.new copies.new out.new }
 {
     match allocator::place(file, units, live, graph, copies, out) {
-        Placing::Done {
-            placed,
-            slots,
-            passes,
-        } => passes as u64 % 16384 * 262144 + slots as u64 % 512 * 512 + placed as u64 % 512,
+        Ok(
+            Placing {
+                placed,
+                slots,
+                passes,
+            },
+        ) => passes as u64 % 16384 * 262144 + slots as u64 % 512 * 512 + placed as u64 % 512,
         Err(r) => pack(r),
     }
 }

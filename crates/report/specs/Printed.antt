@@ -1,5 +1,5 @@
 -- What the program `place` prints of a file, as a list of bytes (docs/DECISIONS.md, "Programs").
-use Rattle.std.specs.Prelude.{ℕ, List, replicate, take}
+use Rattle.std.specs.Prelude.{ℕ, List, replicate, take, Result, Ok, Err}
 use Rattle.std.specs.Io.KnownBytes.{Appends}
 use Rattle.std.specs.declared.option.Option.{Option}
 use Rattle.fields.specs.Edition.{one}
@@ -8,12 +8,12 @@ use Rattle.lines.specs.declared.placing.Setting.{Setting}
 use Rattle.lines.specs.declared.placing.Setting.TheVariants.{Alone}
 use Rattle.allocator.specs.Placing.{Lent, placed}
 use Rattle.allocator.specs.declared.Placing.{Placing}
-use Rattle.allocator.specs.declared.Placing.TheVariants.{Done, Refused}
+use Rattle.records.specs.declared.Refusal.{Refusal}
 
 -- The text for an answer of `place` and the result records that it left.
-abbrev pub outcome_text : Setting → Placing → List ℕ → List ℕ
-outcome_text setting (Done count slots passes) result = placed_text setting count slots passes result
-outcome_text setting (Refused r) result = refused_text setting r
+abbrev pub outcome_text : Setting → Result Placing Refusal → List ℕ → List ℕ
+outcome_text setting (Ok p) result = placed_text setting p.placed p.slots p.passes result
+outcome_text setting (Err r) result = refused_text setting r
 
 -- The same for what stands in the buffers after a call.
 abbrev pub lent_text : Setting → Lent → List ℕ

@@ -4,7 +4,6 @@ ghost use Rattle.std.specs.Prelude.{◌<◌, ◌≤◌, IfOk, length};
 use crate::page::{put_named, put_set, put_word};
 use crate::record_places::{count_blocks, id_at, next_place, number_at};
 use crate::steps::put_step;
-use liveness::Lived;
 use std::io::{Result, Write};
 
 // Every function, in file order.
@@ -43,7 +42,8 @@ fn put_function<W: Write>(
 {
     let number = number_at(file, place);
     let mut live = [0u64; 2048];
-    let passes = passes_of(liveness::live(file, number, units, &mut live));
+    // A function of an accepted file is never refused.
+    let passes = liveness::live(file, number, units, &mut live).unwrap_or(0);
     let name = put_named(out, page, at, b"function ", number as u64)?;
     let blocks = put_named(
         out,
@@ -55,14 +55,6 @@ fn put_function<W: Write>(
     let head = put_named(out, page, blocks, b" passes ", passes as u64)?;
     let start = put_word(out, page, head, b"\n")?;
     put_blocks(out, page, start, file, place, units, &live)
-}
-
-// A function of an accepted file is never refused.
-fn passes_of(lived: Result<usize, Refusal>) -> usize {
-    match lived {
-        Ok(n) => n,
-        Err(_) => 0,
-    }
 }
 
 // The blocks of the function at a place, of which there are at most 128.

@@ -19,7 +19,6 @@ use lines::answer::put_answer;
 use lines::placing::Setting;
 use page::{room, write_out};
 use placing::put_placing;
-use records::Checked;
 use std::io::{Result, Write};
 use storage_lines::put_graph;
 
@@ -29,7 +28,7 @@ pub fn report<W: Write>(out: &mut W, file: &[u8]) -> Result<()> {
     let checked = records::check(file, &mut units);
     let mut page = [0u8; 65536];
     let end = put_answer(&mut page, &units, checked);
-    write_with_analysis(out, &mut page, end, file, &mut units, checked)
+    write_with_analysis(out, &mut page, end, file, &mut units, checked.is_ok())
 }
 
 // Writes the placing of a file alone, or the one line of its refusal. So what the program `place`
@@ -67,18 +66,16 @@ fn write_with_analysis<W: Write>(
     at: usize,
     file: &[u8],
     units: &mut [u32; 512],
-    checked: Result<usize, Refusal>,
+    accepted: bool,
 ) -> Result<()>
     requires { at ≤ 65536 }
 {
-    match checked {
-        Ok(_) => {
-            let functions = put_functions(out, page, at, file, units)?;
-            let graph = put_graph(out, page, functions, file, units)?;
-            let start = room(out, page, graph, 24000)?;
-            let end = put_placing(page, start, file, units, Setting::InReport);
-            write_out(out, page, end)
-        }
-        Err(_) => write_out(out, page, at),
+    if !accepted {
+        return write_out(out, page, at);
     }
+    let functions = put_functions(out, page, at, file, units)?;
+    let graph = put_graph(out, page, functions, file, units)?;
+    let start = room(out, page, graph, 24000)?;
+    let end = put_placing(page, start, file, units, Setting::InReport);
+    write_out(out, page, end)
 }

@@ -24,11 +24,13 @@ pub fn put_placing(
     let mut copies = [0u64; 1024];
     let mut result = [0u8; 2048];
     match allocator::place(file, units, &mut live, &mut near, &mut copies, &mut result) {
-        Placing::Done {
-            placed,
-            slots,
-            passes,
-        } => put_done(page, at, &result, placed, slots, passes, setting),
+        Ok(
+            Placing {
+                placed,
+                slots,
+                passes,
+            },
+        ) => put_done(page, at, &result, placed, slots, passes, setting),
         Err(refusal) => put_refused(page, at, refusal, setting),
     }
 }

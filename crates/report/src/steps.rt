@@ -4,7 +4,6 @@ ghost use Rattle.std.specs.Prelude.{◌≤◌, IfOk};
 
 use crate::page::{put_named, put_set, put_word};
 use std::io::{Result, Write};
-use units::Effect;
 
 pub fn put_step<W: Write>(
     out: &mut W,
@@ -20,7 +19,8 @@ pub fn put_step<W: Write>(
     let start = put_named(out, page, at, b"at ", place as u64)?;
     let units_end = put_units_of(out, page, start, file, place, units)?;
     let storages_end = put_storages_of(out, page, units_end, file, place, units)?;
-    let effect = units::observable_effect(file, place, units);
+    // A step of an accepted file is never refused.
+    let effect = units::observable_effect(file, place, units).unwrap_or(false);
     put_effect(out, page, storages_end, effect)
 }
 
@@ -38,9 +38,9 @@ fn put_units_of<W: Write>(
     ensures { IfOk result (λ r. r ≤ 65536) }
 {
     let mut reads = [0u64; 8];
-    units::unit_reads(file, place, units, &mut reads);
+    let _ = units::unit_reads(file, place, units, &mut reads);
     let mut writes = [0u64; 8];
-    units::unit_writes(file, place, units, &mut writes);
+    let _ = units::unit_writes(file, place, units, &mut writes);
     let end = put_set(out, page, at, b" reads", &reads, 0, 8)?;
     put_set(out, page, end, b" writes", &writes, 0, 8)
 }
@@ -58,26 +58,25 @@ fn put_storages_of<W: Write>(
     ensures { IfOk result (λ r. r ≤ 65536) }
 {
     let mut reads = [0u64; 4];
-    units::storage_reads(file, place, units, &mut reads);
+    let _ = units::storage_reads(file, place, units, &mut reads);
     let mut writes = [0u64; 4];
-    units::storage_writes(file, place, units, &mut writes);
+    let _ = units::storage_writes(file, place, units, &mut writes);
     let end = put_set(out, page, at, b" storages-read", &reads, 0, 4)?;
     put_set(out, page, end, b" storages-written", &writes, 0, 4)
 }
 
-// The effect ends the line. A step of an accepted file is never refused.
+// The effect ends the line.
 fn put_effect<W: Write>(
     out: &mut W,
     page: &mut [u8; 65536],
     at: usize,
-    effect: Result<bool, Refusal>,
+    effect: bool,
 ) -> Result<usize>
     requires { at ≤ 65536 }
     ensures { IfOk result (λ r. r ≤ 65536) }
 {
-    match effect {
-        Ok(true) => put_word(out, page, at, b" effect yes\n"),
-        Ok(false) => put_word(out, page, at, b" effect no\n"),
-        Err(_) => put_word(out, page, at, b" effect no\n"),
+    if effect {
+        return put_word(out, page, at, b" effect yes\n");
     }
+    put_word(out, page, at, b" effect no\n")
 }

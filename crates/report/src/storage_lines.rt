@@ -3,7 +3,6 @@ ghost use Rattle.std.specs.Prelude.{◌<◌, ◌≤◌, IfOk};
 
 use crate::page::{put_named, put_set, put_word};
 use crate::record_places::{id_at, next_place};
-use graph::Graphed;
 use std::io::{Result, Write};
 
 pub fn put_graph<W: Write>(
@@ -19,19 +18,12 @@ pub fn put_graph<W: Write>(
     let mut live = [0u64; 2048];
     let mut near = [0u64; 1024];
     let mut copies = [0u64; 1024];
-    let passes = passes_of(graph::graph(file, units, &mut live, &mut near, &mut copies));
+    // An accepted file is never refused.
+    let passes = graph::graph(file, units, &mut live, &mut near, &mut copies).unwrap_or(0);
     let name = put_named(out, page, at, b"graph passes ", passes as u64)?;
     let head = put_word(out, page, name, b"\n")?;
     let end = put_storages(out, page, head, file, &near)?;
     put_copies(out, page, end, &copies)
-}
-
-// An accepted file is never refused.
-fn passes_of(graphed: Result<usize, Refusal>) -> usize {
-    match graphed {
-        Ok(n) => n,
-        Err(_) => 0,
-    }
 }
 
 // Every storage, in file order. Ids are below 256.

@@ -4,11 +4,5 @@ use mathlib.Core.Path.{refl}
 use Rattle.entry.proofs.Laws.{says}
 use Rattle.entry.proofs.effect_at.Goals as goal
 
-pub returns-in-Ok : goal.returns-in-Ok
-returns-in-Ok c = says _ _ _ _ _ _ _ c.observable_effect.ensures c.in-Ok.is refl
-
-pub returns-in-Ok : goal.returns-in-Ok
-returns-in-Ok c = says _ _ _ _ _ _ _ c.observable_effect.ensures c.in-Ok.is refl
-
 pub returns-in-Err : goal.returns-in-Err
 returns-in-Err c = says _ _ _ _ _ _ _ c.observable_effect.ensures c.in-Err.is c.pack.ensures

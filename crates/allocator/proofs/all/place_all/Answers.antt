@@ -1,5 +1,6 @@
 -- `place_all` meets its contract. The invariant: the storages still ahead, placed from the state that the words stand for, come to what all of them come to
 -- from the start. Each turn takes one record; at the end none is ahead. Assumes nothing.
+use Rattle.std.specs.Prelude.{Ok}
 use mathlib.Core.Path.{sym, ap, ◌∙◌}
 use native.Mathlib.Omega.{arith}
 use lib.ListN.{length}
@@ -7,7 +8,7 @@ use Rattle.std.proofs.lemmas.Result.{err_from_is_err_and}
 use Rattle.storages.proofs.Declared.{opened, opens_inside}
 use Rattle.allocator.proofs.Going.{going_start, Follows, placed_follows, opened_follows, going_held, front_fits, front_few, room_left, going_refused, going_on, going_end, clear_long}
 use Rattle.allocator.proofs.all.place_all.Goals as goal
-use Rattle.allocator.proofs.all.place_all.Goals.{in-Some, in_default}
+use Rattle.allocator.proofs.all.place_all.Goals.{in-None, in-Some}
 
 pub loop-list-init : goal.loop-list-init
 loop-list-init c =
@@ -97,14 +98,14 @@ loop-list-preserved c =
     let few = front_few c.loop-list.invariant _ _ c.tail_of-in-loop-list.ensures.0 c.storage_at-s.ensures q in
     let v = c.place_one.result in
     let s = c.storage_at-s.result in
-    let follows : Follows c.loop-list.list c.loop-list.n s v c.match-place_one.list c.match-place_one.n =
-    elim c.match-place_one.branch [
-      | in_default w ↦ placed_follows c.loop-list.list c.loop-list.n s v c.match-place_one.list c.match-place_one.n c.loop-list.invariant.pages c.loop-list.invariant.full ? w.list-is w.n-is
+    let follows : Follows c.loop-list.list c.loop-list.n s v c.match-opened.list c.match-opened.n =
+    elim c.match-opened.branch [
+      | in-None w ↦ placed_follows c.loop-list.list c.loop-list.n s v c.match-opened.list c.match-opened.n c.loop-list.invariant.pages c.loop-list.invariant.full (c.in_ok-opened.was ∙ ap Ok w.in-None.is) w.list-is w.n-is
       | in-Some w ↦
-          opened_follows c.loop-list.list c.loop-list.n s v c.match-place_one.list c.match-place_one.n c.loop-list.invariant.pages c.loop-list.invariant.full few _ _ _ _
-          w.in-Some.is w.slot_of.ensures w.put_page.ensures w.list-is w.n-is
+          opened_follows c.loop-list.list c.loop-list.n s v c.match-opened.list c.match-opened.n c.loop-list.invariant.pages c.loop-list.invariant.full few _ _ _ _
+          (c.in_ok-opened.was ∙ ap Ok w.in-Some.is) w.slot_of.ensures w.put_page.ensures w.list-is w.n-is
     ] in
-    going_on c.loop-list.invariant _ _ c.tail_of-in-loop-list.ensures.0 c.storage_at-s.ensures q v _ _ _ _ _ _ c.place_one.ensures c.match-place_one.list c.match-place_one.n follows _ c.raise-floor.ensures
+    going_on c.loop-list.invariant _ _ c.tail_of-in-loop-list.ensures.0 c.storage_at-s.ensures q v _ _ _ _ _ _ c.place_one.ensures c.match-opened.list c.match-opened.n follows _ c.raise-floor.ensures
     c.place_one.auto.app c.place_one.auto.work c.place_one.auto.ids c.place_one.auto.kin c.place_one.auto.numbers c.place_one.auto.out
 
 pub shape_of-app : goal.shape_of-app

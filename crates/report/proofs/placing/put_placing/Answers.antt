@@ -4,7 +4,7 @@ use Rattle.report.proofs.Printed.{done_text, refused_text_lem}
 use Rattle.report.proofs.placing.put_placing.Goals as goal
 
 pub returns-in-Ok-clause-text : goal.returns-in-Ok-clause-text
-returns-in-Ok-clause-text c = done_text _ _ _ _ _ _ _ _ _ c.place.ensures _ _ _ c.in-Ok.is c.put_done.ensures.text
+returns-in-Ok-clause-text c = done_text _ _ _ _ _ _ _ _ _ c.place.ensures _ c.in-Ok.is c.put_done.ensures.text
 
 pub returns-in-Err-clause-text : goal.returns-in-Err-clause-text
 returns-in-Err-clause-text c = refused_text_lem _ _ _ _ _ _ _ _ _ c.place.ensures _ c.in-Err.is c.put_refused.ensures.text
