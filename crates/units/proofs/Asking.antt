@@ -7,14 +7,13 @@ use mathlib.Core.Bool.{Bool, true, false}
 use mathlib.Core.List.{List, [], ◌++◌}
 use Prim.Native.Nat.{ℕ, ◌+◌, ◌≤◌, ◌<◌}
 use native.Mathlib.Omega.{arith}
-use lib.Dec.{ltb, leb, eqb}
+use lib.Dec.{ltb, leb}
 use lib.ListN.{length, get_or, drop, replicate}
 use borrow.Author.Tests.{le-ltb, lt-ltb, ne_eqb, le-leb, lt-leb}
 use Rattle.rows.specs.Row.{put, row, pack}
 use Rattle.rows.proofs.Rows.{row_whole}
 use Rattle.fields.specs.Pick.{pick, pick_yes, pick_no, ◌and◌, ◌or◌, has}
 use Rattle.fields.specs.Edition.{one}
-use Rattle.fields.specs.Record.{u8_at}
 use Rattle.records.specs.Check.{Answer, units, refusal, check}
 use Rattle.records.specs.Outcome.{Outcome, laid, outcome_by, Numbers}
 use Rattle.records.specs.Program.{Function, empty, step_of, program}

@@ -86,8 +86,12 @@ Locates f place (Some s) =
     (n : ℕ) × (step_at one f place ≡ step (function_from f n s.own.at) (step_from f place)) × StandsAt f s.own × StandsAt f s.here × (s.here.at ≡ place) × IsStep f place
 Locates f place None = step_at one f place ≡ nowhere
 
+-- Both cursors of a site are sound, and the head of the step's record lies within the file.
+abbrev pub SoundSite : List ℕ → Site → Type 0
+SoundSite f s = Sound s.own × Sound s.here × (s.here.at + 4 ≤ length f)
+
 abbrev pub SoundBoth : List ℕ → Option Site → Type 0
-SoundBoth f (Some s) = Sound s.own × Sound s.here × (s.here.at + 4 ≤ length f)
+SoundBoth f (Some s) = SoundSite f s
 SoundBoth f None = Unit {0}
 
 -- How many unit numbers a record brings, by its kind byte.

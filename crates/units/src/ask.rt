@@ -9,7 +9,7 @@ ghost use Rattle.units.specs.Seek.{Seeks, Shows, given, storages_below};
 
 use crate::cursor::Cursor;
 use crate::locate::{Site, locate};
-use crate::uses::uses_at;
+use crate::numbered::Numbered;
 use records::Refusal;
 
 // Checks the file and looks for the step. Where there is none, the unit words are cleared again.
@@ -47,12 +47,22 @@ pub fn rows_at(
     let mut numbers = [0u16; 2341];
     let mut table = [0u16; 512];
     let site = find_step(file, place, words, &mut numbers, &mut table)?;
-    uses_at(file, &numbers, &table, site.own, site.here, reads, writes);
+    let source = Numbered {
+        file,
+        numbers: &numbers,
+        table: &table,
+    };
+    source.uses_at(site, reads, writes);
     Ok(())
 }
 
 // Hands a found row over to the lent one, which a refusal leaves as it is.
-pub fn give_row(r: Result<(), Refusal>, found: &[u64], n: usize, row: &mut [u64]) -> Result<(), Refusal>
+pub fn give_row(
+    r: Result<(), Refusal>,
+    found: &[u64],
+    n: usize,
+    row: &mut [u64],
+) -> Result<(), Refusal>
     requires { (length found.now ≡ n) × (n ≤ length row.old) }
     ensures { (result ≡ r) × (row.new ≡ given r found.now n row.old) }
 {

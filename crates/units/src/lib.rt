@@ -5,6 +5,7 @@
 mod ask;
 pub mod cursor;
 pub mod locate;
+pub mod numbered;
 pub mod uses;
 
 ghost use Rattle.units.specs.Ask.{read_row, write_row, storage_read_row, storage_write_row, row_of, storage_row_of, Asks, Tells};
@@ -66,28 +67,48 @@ fn storage_row(
 }
 
 // The units that the step at a place reads.
-pub fn unit_reads(file: &[u8], place: usize, units: &mut [u32], row: &mut [u64]) -> Result<(), Refusal>
+pub fn unit_reads(
+    file: &[u8],
+    place: usize,
+    units: &mut [u32],
+    row: &mut [u64],
+) -> Result<(), Refusal>
     ensures { Asks read_row 8 file.now place units.old row.old result units.new row.new }
 {
     unit_row(file, place, false, units, row)
 }
 
 // The units that it writes.
-pub fn unit_writes(file: &[u8], place: usize, units: &mut [u32], row: &mut [u64]) -> Result<(), Refusal>
+pub fn unit_writes(
+    file: &[u8],
+    place: usize,
+    units: &mut [u32],
+    row: &mut [u64],
+) -> Result<(), Refusal>
     ensures { Asks write_row 8 file.now place units.old row.old result units.new row.new }
 {
     unit_row(file, place, true, units, row)
 }
 
 // The storages of the units that it reads.
-pub fn storage_reads(file: &[u8], place: usize, units: &mut [u32], row: &mut [u64]) -> Result<(), Refusal>
+pub fn storage_reads(
+    file: &[u8],
+    place: usize,
+    units: &mut [u32],
+    row: &mut [u64],
+) -> Result<(), Refusal>
     ensures { Asks storage_read_row 4 file.now place units.old row.old result units.new row.new }
 {
     storage_row(file, place, false, units, row)
 }
 
 // The storages of the units that it writes.
-pub fn storage_writes(file: &[u8], place: usize, units: &mut [u32], row: &mut [u64]) -> Result<(), Refusal>
+pub fn storage_writes(
+    file: &[u8],
+    place: usize,
+    units: &mut [u32],
+    row: &mut [u64],
+) -> Result<(), Refusal>
     ensures { Asks storage_write_row 4 file.now place units.old row.old result units.new row.new }
 {
     storage_row(file, place, true, units, row)

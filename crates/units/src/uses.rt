@@ -1,5 +1,5 @@
 // What a step reads and writes, as two rows of units, in one visit to its record and operands.
-ghost use Rattle.std.specs.Prelude.{◌≡◌, List, ℕ, ◌+◌, ◌*◌, ◌≤◌, ◌<◌, length, drop};
+ghost use Rattle.std.specs.Prelude.{◌≡◌, List, ℕ, ◌+◌, ◌*◌, ◌≤◌, ◌<◌, length, get_or, drop};
 ghost use Rattle.rows.specs.Row.{with_at};
 ghost use Rattle.fields.specs.Pick.{pick};
 ghost use Rattle.fields.specs.Table.{row_word};
@@ -7,10 +7,12 @@ ghost use Rattle.fields.specs.Edition.{one};
 ghost use Rattle.records.specs.Program.{Function, program, row_by};
 ghost use Rattle.units.specs.Uses.{reads as reads_of, writes as writes_of};
 ghost use Rattle.units.specs.Rows.{unit_row};
-ghost use Rattle.units.specs.Along.{from, step_from, IsStep, StandsAt, Sound, Sane, Ready};
+ghost use Rattle.units.specs.Along.{from, step_from, IsStep, StandsAt, Sound, SoundSite, Sane, Ready};
 ghost use Rattle.units.specs.Marks.{jotted, marks, Behind, roles_in, fields_in, opens_seven, wanted_by, read_in, written_in, callee_in, takes_abis, read_source, read_role, read_abis, written_abis};
 
 use crate::cursor::Cursor;
+use crate::locate::Site;
+use crate::numbered::Numbered;
 use fields::bytes::tail_of;
 use fields::table::{end_entry_of, entry_of, field_in};
 
@@ -136,14 +138,13 @@ fn operand_rows(
 }
 
 // The cursor behind the record of function n; far behind every file where there is none.
-fn callee_at(table: &[u16], n: u8) -> Cursor
-    requires { Sane table.now }
-    ensures { (result ≡ callee_in table.now n) × Sound result }
+fn callee_at(source: Numbered, n: u8) -> Cursor
+    ensures { (result ≡ callee_in source.entry.table.now n) × Sound result }
 {
     let i = n as usize;
     Cursor {
-        at: table[i] as usize,
-        k: table[256 + i] as usize,
+        at: source.table[i] as usize,
+        k: source.table[256 + i] as usize,
     }
 }
 
@@ -185,9 +186,7 @@ fn read_role(ends: bool, op: u8) -> u8
 
 // The units of the ABI records that a step reads and writes, where n is the callee. Most steps take none, and TailCall and Return write none.
 fn abi_rows(
-    file: &[u8],
-    numbers: &[u16],
-    table: &[u16],
+    source: Numbered,
     own: Cursor,
     ends: bool,
     op: u8,
@@ -195,16 +194,16 @@ fn abi_rows(
     reads: &mut [u64],
     writes: &mut [u64],
 )
-    requires { (length file.now ≤ 16384) × (2341 ≤ length numbers.now) × Sane table.now × Sound own × (length reads.old ≡ 8) × (length writes.old ≡ 8) }
-    ensures { (reads.new ≡ read_abis ends op file.now numbers.now (callee_in table.now n) own reads.old)
-        × (writes.new ≡ written_abis ends op file.now numbers.now (callee_in table.now n) writes.old) }
+    requires { Sound own × (length reads.old ≡ 8) × (length writes.old ≡ 8) }
+    ensures { (reads.new ≡ read_abis ends op source.entry.file.now source.entry.numbers.now (callee_in source.entry.table.now n) own reads.old)
+        × (writes.new ≡ written_abis ends op source.entry.file.now source.entry.numbers.now (callee_in source.entry.table.now n) writes.old) }
 {
     if takes_abis(ends, op) {
-        let callee = callee_at(table, n);
+        let callee = callee_at(source, n);
         let read = read_source(ends, op, callee, own);
         abi_row(
-            rest_of(file, read.at),
-            numbers,
+            rest_of(source.file, read.at),
+            source.numbers,
             read.k,
             read_role(ends, op),
             reads,
@@ -213,8 +212,8 @@ fn abi_rows(
             return;
         }
         abi_row(
-            rest_of(file, callee.at),
-            numbers,
+            rest_of(source.file, callee.at),
+            source.numbers,
             callee.k,
             OUTCOMES,
             writes,
@@ -232,7 +231,47 @@ fn fields_of(ends: bool, op: u8, sub: u8) -> u64
     entry_of(op) % ABOVE
 }
 
-// The step at `here` reads and writes these units. Answers the cursor behind its operands.
+// The number of the function that a step calls.
+fn callee_of(tail: &[u8]) -> u8
+    requires { 4 ≤ length tail.now }
+    ensures { result ≡ get_or tail.now 3 0 }
+{
+    tail[3]
+}
+
+impl Numbered<'_> {
+    // The step at a place reads and writes these units. Answers the cursor behind its operands.
+    pub fn uses_at(self, site: Site, reads: &mut [u64], writes: &mut [u64]) -> Cursor
+        requires site { SoundSite self.file.now site }
+        requires rows { (length reads.old ≡ 8) × (length writes.old ≡ 8) }
+        ensures sound { Sound result × (site.here.at + 4 ≤ result.at) × (result.at ≤ length self.entry.file.now) }
+        ensures behind { result.at ≡ site.here.at + 4 + 7 * length (from self.entry.file.now (site.here.at + 4)).operands }
+        ensures uses { (us : List ℕ) (f : Function) → Ready self.entry.file.now us self.entry.numbers.now self.entry.table.now
+            → StandsAt self.entry.file.now site.own → f.abis ≡ (from self.entry.file.now site.own.at).abis
+            → StandsAt self.entry.file.now site.here → IsStep self.entry.file.now site.here.at
+            → (reads.new ≡ unit_row one us (reads_of one (program one self.entry.file.now) f (step_from self.entry.file.now site.here.at)))
+            × (writes.new ≡ unit_row one us (writes_of one (program one self.entry.file.now) (step_from self.entry.file.now site.here.at)))
+            × StandsAt self.entry.file.now result }
+    {
+        rows::clear(reads, 0, 8);
+        rows::clear(writes, 0, 8);
+        let here = site.here;
+        let tail = tail_of(self.file, here.at);
+        let ends = tail[0] == 7;
+        let op = tail[1];
+        let callee = callee_of(tail);
+        abi_rows(self, site.own, ends, op, callee, reads, writes);
+        let fields = fields_of(ends, op, tail[2]);
+        let operands = tail_of(tail, 4);
+        let count = operand_rows(operands, self.numbers, here.k, fields, ends, reads, writes);
+        Cursor {
+            at: here.at + 4 + 7 * count,
+            k: here.k + count,
+        }
+    }
+}
+
+// The same of the parts, for the walks that take them one by one.
 pub fn uses_at(
     file: &[u8],
     numbers: &[u16],
@@ -252,17 +291,10 @@ pub fn uses_at(
         × (writes.new ≡ unit_row one us (writes_of one (program one file.now) (step_from file.now here.at)))
         × StandsAt file.now result) }
 {
-    rows::clear(reads, 0, 8);
-    rows::clear(writes, 0, 8);
-    let tail = tail_of(file, here.at);
-    let ends = tail[0] == 7;
-    let op = tail[1];
-    abi_rows(file, numbers, table, own, ends, op, tail[3], reads, writes);
-    let fields = fields_of(ends, op, tail[2]);
-    let operands = tail_of(tail, 4);
-    let count = operand_rows(operands, numbers, here.k, fields, ends, reads, writes);
-    Cursor {
-        at: here.at + 4 + 7 * count,
-        k: here.k + count,
-    }
+    let source = Numbered {
+        file,
+        numbers,
+        table,
+    };
+    source.uses_at(Site { own, here }, reads, writes)
 }

@@ -8,12 +8,12 @@ use Rattle.units.proofs.ask.rows_at.Goals as goal
 pub uses_at-requires : goal.uses_at-requires
 uses_at-requires c =
     let r = reached _ _ _ _ _ _ c.find_step.ensures _ c.in_ok-site.was in
-    (r.short, search rules, r.sane, r.sound.0, r.sound.1, r.sound.2, search rules, search rules)
+    record { site = r.sound; rows = (search rules, search rules) }
 
 pub returns : goal.returns
 returns c =
     let r = reached _ _ _ _ _ _ c.find_step.ensures _ c.in_ok-site.was in
-    shows_done _ _ _ _ _ _ _ r _ _ c.uses_at.ensures.4
+    shows_done _ _ _ _ _ _ _ r _ _ c.uses_at.ensures.uses
 
 pub returns-in_err-site : goal.returns-in_err-site
 returns-in_err-site c =
