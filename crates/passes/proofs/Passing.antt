@@ -11,17 +11,17 @@ use native.Mathlib.Nat.{add-zero}
 use native.Mathlib.Decide.{ℕ_discrete}
 use lib.Dec.{ltb, lit<}
 use lib.Bits.{bit_or}
-use lib.ListN.{length, get_or, replicate, length-replicate}
+use lib.ListN.{length, drop, get_or, replicate, length-replicate, drop_of_length-le}
 use lib.Seq.{drop-cons}
 use borrow.Author.Tests.{lt-ltb, le-ltb, ltb-true, ltb-false, not-true, not-false}
 use Rattle.rows.specs.Row.{Apart, Words, bit, less, member, member_at, row, put, or_row, less_row, same_row}
 use Rattle.rows.proofs.Tests.{either}
 use Rattle.rows.proofs.Digit.{bit_zero}
 use Rattle.rows.proofs.Rows.{length_row, length_row_le, row_whole, length_zip, length_put, get_or_put_out, row_put_same, row_put_other, put_whole, same_refl, same_true, strides_apart}
-use Rattle.rows.proofs.Members.{member_row, member_past, member_or, member_less, member_none, get_or_none, words_none, words_row, words_or, words_less, words_put, rows_ext}
+use Rattle.rows.proofs.Members.{member_row, member_past, member_or, member_less, member_none, get_or_none, words_row, rows_ext}
 use Rattle.fields.specs.Pick.{pick}
 use Rattle.passes.specs.Live.{Row, Block, State, no_block, block, empty, union, backwards, visit, sweep, pass, after, Settled}
-use Rattle.passes.specs.Passes.{width, out_base, units_at, part, targets_of, block_of, listed, blocks_of, state_of, blank, Given, Held, Solved, Passed, joined, joined_all, out_row, in_row, visited, differs}
+use Rattle.passes.specs.Passes.{width, out_base, units_at, targets_of, block_of, listed, blocks_of, state_of, blank, Given, Held, Solved, Passed, joined, joined_all, out_row, in_row, visited, differs}
 use Rattle.passes.proofs.Laws.{put_cases, put_other, state_ext, changes_early, visit_shows, visit_same}
 
 -- ---- the live-in rows of the targets, one a turn
@@ -30,7 +30,7 @@ module _ (live : List ℕ) (count : ℕ) (len : length live ≡ 2048) (few : cou
   target_len : (t : ℕ) → t < count → length (row live (t * width) width) ≡ width
   target_len t h = length_row live (t * width) width (omega arith)
 
-  joined_len : (t : ℕ) (out : List ℕ) → length out ≡ width → length (joined live count t out) ≡ width
+  pub joined_len : (t : ℕ) (out : List ℕ) → length out ≡ width → length (joined live count t out) ≡ width
   unfolding joined pick
   joined_len t out lo = go (ltb t count) refl
     where
@@ -43,19 +43,6 @@ module _ (live : List ℕ) (count : ℕ) (len : length live ≡ 2048) (few : cou
   all_len [] out lo = lo
   all_len (t ∷ ts) out lo = all_len ts (joined live count t out) (joined_len t out lo)
 
-  joined_words : (t : ℕ) (out : List ℕ) → length out ≡ width → Words live → Words out → Words (joined live count t out)
-  unfolding joined pick
-  joined_words t out lo wl wo = go (ltb t count) refl
-    where
-      go : (b : Bool) → ltb t count ≡ b → Words (pick b (or_row out (row live (t * width) width)) out)
-      go true e = words_or out _ (lo ∙ sym (target_len t (ltb-true t count e))) wo (words_row live (t * width) width wl)
-      go false e = wo
-
-  all_words : (ts out : List ℕ) → length out ≡ width → Words live → Words out → Words (joined_all live count ts out)
-  unfolding joined_all
-  all_words [] out lo wl wo = wo
-  all_words (t ∷ ts) out lo wl wo = all_words ts (joined live count t out) (joined_len t out lo) wl (joined_words t out lo wl wo)
-
   -- What a call of union_from leaves where there is such a block, and the row as it is where there is none.
   pub joined_there : (t : ℕ) (out : List ℕ) → length out ≡ width → t < count → (out' : List ℕ) → out' ≡ put out 0 (or_row (row out 0 width) (row live (t * width) width))
       → out' ≡ joined live count t out
@@ -67,40 +54,15 @@ module _ (live : List ℕ) (count : ℕ) (len : length live ≡ 2048) (few : cou
   unfolding joined pick
   joined_missing t out h = rw (le-ltb t count h)
 
--- One entry of a part of a list, and the rest.
-pub part_step : (l : List ℕ) (i to : ℕ) → i < to → to ≤ length l → part l i to ≡ get_or l i 0 ∷ part l (i + 1) to
-unfolding part
-part_step l i to h g =
-    let e : to - i ≡ suc (to - (i + 1)) = omega arith in
-    let k : i < length l = omega arith in
-    rw (e, drop-cons l i 0 k, add-one)
+-- The loop over the targets: one turn more, and the end.
+module _ (live : List ℕ) (count : ℕ) (ts : List ℕ) (i : ℕ) (out : List ℕ) where
+  pub gathering_step : i < length ts → joined_all live count (drop i ts) out ≡ joined_all live count (drop (i + 1) ts) (joined live count (get_or ts i 0) out)
+  unfolding joined_all
+  gathering_step h = rw (drop-cons ts i 0 h, add-one)
 
-pub part_end : (l : List ℕ) (i to : ℕ) → to ≤ i → part l i to ≡ []
-unfolding part
-part_end l i to h = let e : to - i ≡ 0 = omega arith in rw e
-
--- The loop over the targets: joining those from i on comes to what joining all comes to.
-pub record Gathering (live targets starts : List ℕ) (count k to : ℕ) (before out : List ℕ) (i : ℕ) : Type 0 where
-  pub len : length out ≡ width
-  pub rest : joined_all live count (part targets i to) out ≡ joined_all live count (targets_of targets starts k) before
-
-module _ (live targets starts : List ℕ) (count k : ℕ) (before : List ℕ) where
-  pub gathering_start : length before ≡ width → Gathering live targets starts count k (get_or starts (k + 1) 0) before before (get_or starts k 0)
-  unfolding targets_of
-  gathering_start h = record { len = h; rest = refl }
-
-  module _ (to : ℕ) (out : List ℕ) (i : ℕ) (g : Gathering live targets starts count k to before out i) where
-    pub gathering_step : length live ≡ 2048 → count ≤ 128 → i < to → to ≤ length targets → (out' : List ℕ) → out' ≡ joined live count (get_or targets i 0) out
-        → Gathering live targets starts count k to before out' (i + 1)
-    unfolding joined_all
-    gathering_step len few h w out' e = record {
-      len = rw e (joined_len live count len few (get_or targets i 0) out g.len);
-      rest = rw e (rw (part_step targets i to h w) at g.rest);
-    }
-
-    pub gathering_done : to ≤ i → out ≡ joined_all live count (targets_of targets starts k) before
-    unfolding joined_all
-    gathering_done h = rw (part_end targets i to h) at g.rest
+  pub gathering_end : length ts ≤ i → joined_all live count (drop i ts) out ≡ out
+  unfolding joined_all
+  gathering_end h = rw (drop_of_length-le ts h)
 
 -- ---- two rows written into a buffer, the second below the first
 
@@ -134,9 +96,6 @@ module _ (live : List ℕ) (o i : ℕ) (out inn : List ℕ) (lo : length out ≡
 
   both_word : (j : ℕ) → (j < o) ⊎ (o + width ≤ j) → (j < i) ⊎ (i + width ≤ j) → get_or (put (put live o out) i inn) j 0 ≡ get_or live j 0
   both_word j p q = get_or_put_out (put live o out) i inn fit_i j (rw li q) ∙ get_or_put_out live o out fit_o j (rw lo p)
-
-  both_words : Words live → Words out → Words inn → Words (put (put live o out) i inn)
-  both_words wl wo wi = words_put (put live o out) i inn fit_i (words_put live o out fit_o wl wo) wi
 
 -- ---- a row as a set
 
@@ -287,21 +246,12 @@ module _ (gens kills targets starts : List ℕ) (count : ℕ) (given : Given gen
   visited_len = both_len live (out_base + k * width) (k * width) out inn out_len in_len fit under ∙ len
 
   -- The buffer stays one of live rows.
-  module _ (held : Held live count) (wg : Words gens) (wk : Words kills) where
-    out_words : Words out
-    unfolding out out_row blank
-    out_words = all_words live count len few (targets_of targets starts k) (blank width) (blank_len width) held.words (words_none width)
-
-    in_words : Words inn
-    unfolding inn in_row
-    in_words =
-        words_or _ _ (less_len ∙ sym gens_row) (words_less out _ (out_len ∙ sym kills_row) out_words (words_row kills (k * width) width wk)) (words_row gens (k * width) width wg)
-
+  module _ (held : Held live count) (words : Words (visited gens kills targets starts count k live)) where
     pub visit_held : Held (visited gens kills targets starts count k live) count
     unfolding visited out inn
     visit_held = record {
       len = visited_len;
-      words = both_words live (out_base + k * width) (k * width) out inn out_len in_len fit under held.words out_words in_words;
+      words = words;
       past_ins = λ i g h. both_word live (out_base + k * width) (k * width) out inn out_len in_len fit under i (inl (omega arith)) (inr (omega arith)) ∙ held.past_ins i g h;
       past_outs = λ i g. both_word live (out_base + k * width) (k * width) out inn out_len in_len fit under i (inr (omega arith)) (inr (omega arith)) ∙ held.past_outs i g;
     }
@@ -437,14 +387,14 @@ module _ (gens kills targets starts : List ℕ) (count : ℕ) where
   passing_done before live changed zero z p = record { held = p.held; state = p.rest; same = p.same; moved = p.moved }
   passing_done before live changed (suc k) z p = absurd (omega arith)
 
-  module _ (given : Given gens kills targets starts count) (wg : Words gens) (wk : Words kills) (before live : List ℕ) (c d : Bool) (k : ℕ)
-      (p : Passing gens kills targets starts count before live c (suc k)) (live' : List ℕ)
+  module _ (given : Given gens kills targets starts count) (before live : List ℕ) (c d : Bool) (k : ℕ)
+      (p : Passing gens kills targets starts count before live c (suc k)) (live' : List ℕ) (words : Words live')
       (ew : live' ≡ visited gens kills targets starts count k live) (ed : d ≡ differs k live live') where
     hk : k < count
     hk = omega (arith, p.low)
 
     held' : Held live' count
-    held' = rw ew (visit_held gens kills targets starts count given live p.held.len k hk p.held wg wk)
+    held' = rw ew (visit_held gens kills targets starts count given live p.held.len k hk p.held (rw ew at words))
 
     step_state : state_of live' count ≡ visit the_blocks k (state_of live count)
     step_state = rw ew (lift_visit gens kills targets starts count given live p.held.len k hk)
@@ -499,11 +449,11 @@ module _ (gens kills targets starts : List ℕ) (count : ℕ) where
     }
 
   -- The same for the number that the code counts down.
-  pub passing_again : Given gens kills targets starts count → Words gens → Words kills → (before live : List ℕ) (c d : Bool) (n : ℕ) → 0 < n
-      → Passing gens kills targets starts count before live c n → (live' : List ℕ) → live' ≡ visited gens kills targets starts count (n - 1) live → d ≡ differs (n - 1) live live'
+  pub passing_again : Given gens kills targets starts count → (before live : List ℕ) (c d : Bool) (n : ℕ) → 0 < n
+      → Passing gens kills targets starts count before live c n → (live' : List ℕ) → Words live' → live' ≡ visited gens kills targets starts count (n - 1) live → d ≡ differs (n - 1) live live'
       → Passing gens kills targets starts count before live' (c || d) (n - 1)
-  passing_again given wg wk before live c d n l p =
-      passing_step given wg wk before live c d (n - 1) (subst (Passing gens kills targets starts count before live c) (omega arith) p)
+  passing_again given before live c d n l p =
+      passing_step given before live c d (n - 1) (subst (Passing gens kills targets starts count before live c) (omega arith) p)
 
 -- ---- the passes
 

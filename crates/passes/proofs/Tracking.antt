@@ -1,7 +1,7 @@
 -- Which visits a pass may leave out. A visit reads the live-in rows of the block's targets and writes the block's own rows: where it would change nothing
 -- this stays so until a target changes, and a target that changes is marked from its turn on until the block has had a turn of its own.
 use mathlib.Core.Path.{◌≡◌, refl, sym, ap, ◌∙◌}
-use mathlib.Core.Bool.{Bool, true, false, not, ◌&&◌, true≢false}
+use mathlib.Core.Bool.{Bool, true, false, ◌&&◌, true≢false}
 use mathlib.Core.Logic.{◌⊎◌, inl, inr, ⊎_elim}
 use mathlib.Core.List.Memᴰ
 use mathlib.Core.List.{List, [], ◌∷◌, Memᴰ}
@@ -11,35 +11,16 @@ use native.Mathlib.Decide.{ℕ_discrete}
 use lib.Dec.{ltb}
 use lib.ListN.{length, get_or, set, length-set}
 use lib.Seq.{get_or-set_same, get_or-set_other}
-use borrow.Author.Tests.{lt-ltb, le-ltb, ltb-true, not-true}
+use borrow.Author.Tests.{lt-ltb, ltb-true}
 use Rattle.rows.specs.Row.{row, put, or_row}
 use Rattle.rows.proofs.Rows.{lt_or_ge, put_row, same_refl}
 use Rattle.fields.specs.Pick.{pick}
-use Rattle.passes.specs.Passes.{width, out_base, part, targets_of, blank, Given, Overtaken, Tracked, joined, joined_all, out_row, in_row, visited, differs, leads}
-use Rattle.passes.proofs.Passing.{part_step, part_end, visited_in, visited_out, visited_len, visited_other, neither, rows_same}
+use Rattle.passes.specs.Passes.{width, out_base, targets_of, blank, Given, Overtaken, Tracked, joined, joined_all, out_row, in_row, visited, differs, leads}
+use Rattle.passes.proofs.Passing.{visited_in, visited_out, visited_len, visited_other, neither, rows_same}
 
 -- ---- the test of a block's targets
 
 module _ (moved : List Bool) (count : ℕ) where
-  pub leads_hit : (targets : List ℕ) (i to : ℕ) → i < to → to ≤ length targets → get_or targets i 0 < count → get_or moved (get_or targets i 0) false ≡ true
-      → leads moved count (part targets i to) ≡ true
-  unfolding leads
-  leads_hit targets i to h g l e = rw (part_step targets i to h g, lt-ltb (get_or targets i 0) count l, e)
-
-  pub leads_past : (targets : List ℕ) (i to : ℕ) → i < to → to ≤ length targets → count ≤ get_or targets i 0
-      → leads moved count (part targets i to) ≡ leads moved count (part targets (i + 1) to)
-  unfolding leads
-  leads_past targets i to h g l = rw (part_step targets i to h g, le-ltb (get_or targets i 0) count l)
-
-  pub leads_miss : (targets : List ℕ) (i to : ℕ) → i < to → to ≤ length targets → get_or targets i 0 < count → get_or moved (get_or targets i 0) false ≡ false
-      → leads moved count (part targets i to) ≡ leads moved count (part targets (i + 1) to)
-  unfolding leads
-  leads_miss targets i to h g l e = rw (part_step targets i to h g, lt-ltb (get_or targets i 0) count l, e)
-
-  pub leads_end : (targets : List ℕ) (i to : ℕ) → to ≤ i → leads moved count (part targets i to) ≡ false
-  unfolding leads
-  leads_end targets i to h = rw (part_end targets i to h)
-
   -- Where the test fails, no target is a block that moved.
   leads_none : (ts : List ℕ) → leads moved count ts ≡ false → (t : ℕ) → Memᴰ t ts → t < count → get_or moved t false ≡ true → ⊥
   unfolding leads
@@ -183,12 +164,12 @@ module _ (gens kills targets starts : List ℕ) (count : ℕ) (given : Given gen
               (λ (r : Still live j ⊎ Overtaken targets starts count moved (k + 1) j). inr (⊎_elim (other_block d ed j n h) (λ o. inr (keep d j n o)) r)) (t.each j h)
 
     -- A visit that is left out, after the first pass and where the test of the targets fails, is one that would change nothing.
-    module _ (f : not first ≡ true) (q : Bool) (e : q ≡ leads moved count (targets_of targets starts k)) (n : not q ≡ true) where
+    module _ (f : first ≡ false) (q : Bool) (e : q ≡ leads moved count (targets_of targets starts k)) (n : q ≡ false) where
       pub skipped : live ≡ visited gens kills targets starts count k live
       skipped =
-          ⊎_elim (λ (p : (first ≡ true) × (k < k + 1)). absurd (true≢false (sym p.0 ∙ not-true first f)))
+          ⊎_elim (λ (p : (first ≡ true) × (k < k + 1)). absurd (true≢false (sym p.0 ∙ f)))
           (λ (r : Still live k ⊎ Overtaken targets starts count moved (k + 1) k).
-          ⊎_elim sym (λ (o : Overtaken targets starts count moved (k + 1) k). absurd (leads_none moved count (targets_of targets starts k) (sym e ∙ not-true q n) o.target o.among o.there o.changed)) r)
+          ⊎_elim sym (λ (o : Overtaken targets starts count moved (k + 1) k). absurd (leads_none moved count (targets_of targets starts k) (sym e ∙ n) o.target o.among o.there o.changed)) r)
           (t.each k hk)
 
       pub tracked_skip : Tracked gens kills targets starts count first live (set moved k false) k

@@ -1,2 +1,3 @@
+pub mod Blocks
 pub mod Live
 pub mod Passes

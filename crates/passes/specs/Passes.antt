@@ -1,6 +1,7 @@
 -- The passes of Live over rows of words: how four lists of numbers are a function's blocks, how a buffer of 2048 words is its live sets,
 -- and what `settle` leaves in that buffer. Document 01, "Liveness and interference". Below, what a visit writes, word for word, and which visits may be left out.
 use Rattle.std.specs.Prelude.{◌≡◌, Bool, true, false, not, ◌&&◌, ◌||◌, ◌⊎◌, ℕ, zero, suc, ◌+◌, ◌-◌, ◌*◌, ◌≤◌, ◌<◌, ltb, length, get_or, take, drop, replicate}
+use Rattle.std.specs.List.{list_any}
 use mathlib.Core.List.{List, [], ◌∷◌, Memᴰ}
 use Rattle.rows.specs.Row.{Words, member_at, row, put, or_row, less_row, same_row}
 use Rattle.fields.specs.Pick.{pick}
@@ -106,8 +107,7 @@ differs k before live =
 
 -- `moved` says of each block whether its last turn changed it. Is one of these targets such a block?
 unfoldable pub leads : List Bool → ℕ → List ℕ → Bool
-leads moved count [] = false
-leads moved count (t ∷ ts) = (ltb t count && get_or moved t false) || leads moved count ts
+leads moved count = list_any (λ t. ltb t count && get_or moved t false)
 
 -- Turns go from the last block to the first, pass after pass; in this pass the blocks from k on have had theirs.
 -- A target of block j changed in its last turn, and that was not before the last turn of block j.

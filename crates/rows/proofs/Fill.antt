@@ -1,16 +1,15 @@
 -- A loop that writes a row S over the words of W from `to` on, one word a turn. After i turns the first i words of S stand there and all else is
 -- as it was, so a word is read as it was until its turn, one turn more adds one word, and after the last the row is written.
-use mathlib.Core.Path.{◌≡◌, refl, sym, ap, ◌∙◌}
-use mathlib.Core.Logic.{◌⊎◌, inr, ⊎_elim}
+use mathlib.Core.Path.{◌≡◌, refl, ap, ◌∙◌}
+use mathlib.Core.Logic.{◌⊎◌, ⊎_elim}
 use mathlib.Core.List.{List}
 use Prim.Native.Nat.{ℕ, ◌+◌, ◌≤◌, ◌<◌, zero-le}
-use native.Mathlib.Nat.{le_refl}
 use native.Mathlib.Numerals.{add-one}
 use native.Mathlib.Omega.{arith}
 use lib.ListN.{length, get_or, set, length-set}
 use lib.Seq.{paste, paste-zero, paste-suc}
-use Rattle.rows.specs.Row.{put, row, zip}
-use Rattle.rows.proofs.Rows.{get_or_paste_before, get_or_paste_after, paste_put, length_row, get_or_row, length_zip, get_d_zip}
+use Rattle.rows.specs.Row.{put}
+use Rattle.rows.proofs.Rows.{get_or_paste_before, get_or_paste_after, paste_put}
 
 pub record Filled (W : List ℕ) (to : ℕ) (S words : List ℕ) (i : ℕ) : Type 0 where
   pub is : words ≡ paste W to S i
@@ -39,26 +38,3 @@ module _ {W : List ℕ} {to : ℕ} {S : List ℕ} where
 
     pub filled_all : (n : ℕ) → length S ≡ n → n ≤ i → words ≡ put W to S
     filled_all n e h = let k : length S ≡ i = omega arith in f.is ∙ paste_put W to S i k
-
--- The row that an operation makes, word by word, of the rows at `to` of W and at b of F: its length and its words.
-module _ (f : ℕ → ℕ → ℕ) (W F : List ℕ) (to b n : ℕ) (ht : to + n ≤ length W) (hf : b + n ≤ length F) where
-  zip_len : length (zip f (row W to n) (row F b n)) ≡ n
-  zip_len = length_zip f _ _ (length_row W to n ht ∙ sym (length_row F b n hf)) ∙ length_row W to n ht
-
-  pub zip_start : Filled W to (zip f (row W to n) (row F b n)) W 0
-  zip_start = filled_none (rw zip_len ht)
-
-  module _ {words : List ℕ} {i : ℕ} (g : Filled W to (zip f (row W to n) (row F b n)) words i) where
-    -- The old word is what is read at its turn.
-    pub zip_old : get_or words (to + i) 0 ≡ get_or W (to + i) 0
-    zip_old = filled_read g (to + i) (inr (le_refl (to + i)))
-
-    pub zip_more : (v : ℕ) → f 0 0 ≡ 0 → i < n → v ≡ f (get_or W (to + i) 0) (get_or F (b + i) 0)
-        → Filled W to (zip f (row W to n) (row F b n)) (set words (to + i) v) (i + 1)
-    zip_more v z h e =
-        let len = zip_len in
-        filled_more g v (omega arith)
-        (e ∙ sym (get_d_zip f _ _ i z (length_row W to n ht ∙ sym (length_row F b n hf)) ∙ rw (get_or_row W to n i h, get_or_row F b n i h)))
-
-    pub zip_all : n ≤ i → words ≡ put W to (zip f (row W to n) (row F b n))
-    zip_all h = filled_all g n zip_len h

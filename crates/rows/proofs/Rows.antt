@@ -1,7 +1,7 @@
 -- Rows as lists of words, for any number of words. A row is a stretch of a longer list, so two rows are equal
 -- where they have equal words, and a store or a written row changes no word outside its own stretch.
 use mathlib.Core.Path.{◌≡◌, refl, sym, ap, ap₂, ◌∙◌}
-use mathlib.Core.Bool.{Bool, true, false, false≢true, and-eq-true_iff}
+use mathlib.Core.Bool.{Bool, true, false}
 use mathlib.Core.Logic.{◌⊎◌, inl, inr, ⊎_elim}
 use mathlib.Core.List.{List, [], ◌∷◌, ◌++◌, append-nil}
 use Prim.Native.Nat.{ℕ, zero, suc, ◌+◌, ◌-◌, ◌*◌, ◌≤◌, ◌<◌}
@@ -9,8 +9,13 @@ use native.Mathlib.Nat.{le_refl, le_trans, le_of_eq, suc-mul, mul-le-mul_right}
 use native.Mathlib.Omega.{arith}
 use lib.ListN.{take-append-drop, drop_of_length-le, length, take, drop, get_or, set, length-take, length-drop, length-set, get_or-append, get_or-eq_default}
 use lib.Seq.{take_all, take-add, get_or-take, get_or-drop, get_or-set_other, get_or-append-add, ext_get_or, take-length, length-take-le, paste, length_paste_head, length-paste}
-use lib.Dec.{eqb, ltb}
-use borrow.Author.Tests.{ltb-true, ltb-false, eqb-true, eq-eqb}
+use lib.Dec.{ltb}
+use borrow.Author.Tests.{ltb-true, ltb-false}
+use Rattle.std.specs.List.{between}
+use Rattle.std.proofs.lemmas.Bool.{false_from_ne_true}
+use Rattle.std.proofs.lemmas.Slice.{put_mid-paste}
+use Rattle.std.proofs.lemmas.Slice.Eq.{bytes_eq-Decides}
+use borrow.Rule.Slice.PartMut.{put_mid}
 use Rattle.rows.specs.Row.{Apart, row, put, zip, same_row}
 
 pub lt_or_ge : (a b : ℕ) → (a < b) ⊎ (b ≤ a)
@@ -29,6 +34,11 @@ get_or_row ws b n i h = rw (get_or-take, get_or-drop)
 pub length_row : (ws : List ℕ) (b n : ℕ) → b + n ≤ length ws → length (row ws b n) ≡ n
 unfolding row
 length_row ws b n h = simp (length-take, length-drop) (omega arith)
+
+-- The part of a slice that `&ws[b..b + n]` names.
+pub part_row : (ws : List ℕ) (b n : ℕ) → between b (b + n) ws ≡ row ws b n
+unfolding row
+part_row ws b n = ap (λ (m : ℕ). take m (drop b ws)) (omega arith)
 
 pub length_row_le : (ws : List ℕ) (b n : ℕ) → length (row ws b n) ≤ n
 unfolding row
@@ -104,6 +114,22 @@ pub paste_put : (d : List ℕ) (at : ℕ) (s : List ℕ) (n : ℕ) → length s 
 unfolding put
 paste_put d at s n e = rw (← e, take-length)
 
+-- What a write to a stretch of a slice leaves.
+pub put_mid_put : (a k : ℕ) (ws ys r : List ℕ) → ys ≡ r → length r ≡ k → put_mid a k ws ys ≡ put ws a r
+put_mid_put a k ws ys r e l = put_mid-paste a k ws ys r k e refl (sym l) ∙ paste_put ws a r k l
+
+-- The part holds what an operation makes, word by word, of what was there and a part of another list.
+pub put_mid_zip : (f : ℕ → ℕ → ℕ) → f 0 0 ≡ 0 → (ws F ys : List ℕ) (to b n k : ℕ) → to + n ≤ length ws → b + n ≤ length F → k ≡ n → length ys ≡ length (between to (to + n) ws)
+    → ((i : ℕ) → i < length (between to (to + n) ws) → get_or ys i 0 ≡ f (get_or (between to (to + n) ws) i 0) (get_or (between b (b + n) F) i 0))
+    → put_mid to k ws ys ≡ put ws to (zip f (row ws to n) (row F b n))
+put_mid_zip f z ws F ys to b n k ht hf kn l h =
+    let e : length (row ws to n) ≡ length (row F b n) = length_row ws to n ht ∙ sym (length_row F b n hf) in
+    let m : length (zip f (row ws to n) (row F b n)) ≡ n = length_zip f _ _ e ∙ length_row ws to n ht in
+    let p : length (between to (to + n) ws) ≡ n = ap length (part_row ws to n) ∙ length_row ws to n ht in
+    put_mid_put to k ws ys _
+    (ext_get_or 0 ys _ (l ∙ p ∙ sym m) (λ i g. h i (omega arith) ∙ ap₂ (λ (x y : List ℕ). f (get_or x i 0) (get_or y i 0)) (part_row ws to n) (part_row F b n) ∙ sym (get_d_zip f _ _ i z e)))
+    (m ∙ sym kn)
+
 -- ---- a list after a row is written: its words, the row itself, and every other row
 
 module _ (d : List ℕ) (at : ℕ) (s : List ℕ) (hd : at + length s ≤ length d) where
@@ -145,23 +171,14 @@ put_row ws b n h =
 
 pub same_refl : (a : List ℕ) → same_row a a ≡ true
 unfolding same_row
-same_refl [] = refl
-same_refl (x ∷ a) = rw (eq-eqb x x refl) (same_refl a)
+same_refl a = (bytes_eq-Decides a a).1 refl
 
 pub same_true : (a b : List ℕ) → same_row a b ≡ true → a ≡ b
 unfolding same_row
-same_true [] [] e = refl
-same_true [] (y ∷ b) e = absurd (false≢true e)
-same_true (x ∷ a) [] e = absurd (false≢true e)
-same_true (x ∷ a) (y ∷ b) e =
-    let p = (and-eq-true_iff (eqb x y) (same_row a b)).0 e in ap₂ {C = List ℕ} (λ u v. u ∷ v) (eqb-true x y p.0) (same_true a b p.1)
+same_true a b = (bytes_eq-Decides a b).0
 
 pub same_false : (a b : List ℕ) → (a ≡ b → ⊥) → same_row a b ≡ false
-same_false a b d = go (same_row a b) refl
-  where
-    go : (t : Bool) → same_row a b ≡ t → t ≡ false
-    go true e = absurd (d (same_true a b e))
-    go false e = refl
+same_false a b d = false_from_ne_true (same_row a b) (λ e. d (same_true a b e))
 
 -- ---- rows one after the other, each w words wide: row i at i * w
 

@@ -1,6 +1,7 @@
 -- Sets of numbers as rows of 64-bit words, for any number of words.
 -- The rule is document 01's, section "Refusal numbers", last paragraph: in a row, number n is bit n mod 64 of word n div 64.
-use Rattle.std.specs.Prelude.{Bool, true, false, ◌&&◌, ◌⊎◌, List, [], ◌∷◌, ◌++◌, ℕ, zero, suc, ◌+◌, ◌*◌, ◌/◌, ◌%◌, ◌^◌, ◌≤◌, ◌<◌, get_or, take, drop, length, set, eqb}
+use Rattle.std.specs.Prelude.{Bool, true, false, ◌⊎◌, List, [], ◌∷◌, ◌++◌, ℕ, zero, suc, ◌+◌, ◌*◌, ◌/◌, ◌%◌, ◌^◌, ◌≤◌, ◌<◌, get_or, take, drop, length, set, eqb}
+use Rattle.std.specs.Cmp.Lexicographic.{pointwise}
 use Rattle.std.specs.Int.Bits.{bit_or, bit_and, bit_xor}
 
 -- Bit i of the word w, as 0 or 1.
@@ -60,10 +61,7 @@ less_row = zip less
 
 -- Are two rows the same words?
 unfoldable pub same_row : List ℕ → List ℕ → Bool
-same_row [] [] = true
-same_row [] (y ∷ b) = false
-same_row (x ∷ a) [] = false
-same_row (x ∷ a) (y ∷ b) = eqb x y && same_row a b
+same_row = pointwise eqb
 
 -- Two stretches of words, n from a on and m from b on, do not meet.
 abbrev pub Apart : ℕ → ℕ → ℕ → ℕ → Type 0

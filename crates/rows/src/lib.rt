@@ -28,9 +28,7 @@ pub fn insert(words: &mut [u64], base: usize, n: usize)
     requires { base + n / 64 < length words.old }
     ensures { words.new ≡ with_at words.old base n }
 {
-    let m = mask(n % 64);
-    let at = base + n / 64;
-    words[at] = words[at] | m;
+    words[base + n / 64] |= mask(n % 64);
 }
 
 // The row at to becomes its union with the row at b of another slice.
@@ -38,8 +36,9 @@ pub fn union_from(words: &mut [u64], to: usize, from: &[u64], b: usize, n: usize
     requires { (to + n ≤ length words.old) × (b + n ≤ length from.now) }
     ensures { words.new ≡ put words.old to (or_row (row words.old to n) (row from.now b n)) }
 {
-    for i in 0..n {
-        words[to + i] = words[to + i] | from[b + i];
+    let other = &from[b..b + n];
+    for (i, w) in words[to..to + n].iter_mut().enumerate() {
+        *w |= other[i];
     }
 }
 
@@ -48,9 +47,9 @@ pub fn less_from(words: &mut [u64], to: usize, from: &[u64], b: usize, n: usize)
     requires { (to + n ≤ length words.old) × (b + n ≤ length from.now) }
     ensures { words.new ≡ put words.old to (less_row (row words.old to n) (row from.now b n)) }
 {
-    for i in 0..n {
-        let w = words[to + i];
-        words[to + i] = w ^ (w & from[b + i]);
+    let other = &from[b..b + n];
+    for (i, w) in words[to..to + n].iter_mut().enumerate() {
+        *w ^= *w & other[i];
     }
 }
 
@@ -59,9 +58,7 @@ pub fn clear(words: &mut [u64], from: usize, n: usize)
     requires { from + n ≤ length words.old }
     ensures { words.new ≡ put words.old from (replicate n 0) }
 {
-    for i in 0..n {
-        words[from + i] = 0;
-    }
+    words[from..from + n].fill(0);
 }
 
 // Do the row at a of x and the row at b of y, of n words each, hold the same?
@@ -69,12 +66,7 @@ pub fn same_row(x: &[u64], a: usize, y: &[u64], b: usize, n: usize) -> bool
     requires { (a + n ≤ length x.now) × (b + n ≤ length y.now) }
     ensures { result ≡ same_row (row x.now a n) (row y.now b n) }
 {
-    for i in 0..n {
-        if x[a + i] != y[b + i] {
-            return false;
-        }
-    }
-    true
+    &x[a..a + n] == &y[b..b + n]
 }
 
 // The row at to becomes the row at b of another slice.
@@ -82,9 +74,7 @@ pub fn copy_row(words: &mut [u64], to: usize, from: &[u64], b: usize, n: usize)
     requires { (to + n ≤ length words.old) × (b + n ≤ length from.now) }
     ensures { words.new ≡ put words.old to (row from.now b n) }
 {
-    for i in 0..n {
-        words[to + i] = from[b + i];
-    }
+    words[to..to + n].copy_from_slice(&from[b..b + n]);
 }
 
 // The same, and whether that changed anything: what a loop that runs until nothing changes asks.

@@ -1,7 +1,11 @@
--- `passes::gather` meets its contract. The invariant: joining the targets from i on comes to what joining all of them comes to,
+-- `passes::gather` meets its contract. The invariant: joining the targets that are left comes to what joining all of them comes to,
 -- so a turn takes the first of those that are left, and at the end none is left. Assumes nothing.
-use Rattle.passes.proofs.Passing.{Gathering}
+use Rattle.std.proofs.Common.{◌≡◌, length, drop}
+use Rattle.passes.specs.Passes.{width, joined_all}
 use Rattle.passes.proofs.gather.Given as goal
 
-abbrev pub invariant-loop-i : goal.invariant-loop-i
-invariant-loop-i l = Gathering l.live l.targets l.starts l.count l.k l.to l.initial.out l.out l.i
+abbrev pub invariant-loop-t : goal.invariant-loop-t
+invariant-loop-t l = record {
+  len : length l.out ≡ width;
+  rest : joined_all l.live l.blocks.count (drop l.t-index l.t-items) l.out ≡ joined_all l.live l.blocks.count l.t-items l.initial.out;
+}

@@ -1,37 +1,21 @@
 -- `passes::turn` meets its contract. Where it leaves the visit out, what is tracked says that a visit would change nothing;
 -- and either way the mark of block k is what the contract of a visit answers. Assumes nothing.
-use mathlib.Core.Path.{ap}
-use mathlib.Core.Bool.{not}
-use Prim.Native.Nat.{◌+◌}
-use native.Mathlib.Omega.{arith}
 use Rattle.passes.proofs.Tracking.{skipped, differs_never, tracked_skip, tracked_turn}
 use Rattle.passes.proofs.turn.Goals as goal
-
-pub leads_to-requires : goal.leads_to-requires
-leads_to-requires c =
-    let q = c.requires in
-    let g = q.given in
-    record {
-      moved_len = (q.tracked.len, omega (arith, g.few), omega (arith, g.few, q.live_len.1));
-      in_bounds = (g.starts_len, g.within (c.args.k + 1) (omega (arith, q.live_len.1)));
-    }
 
 pub returns-then-not-leads_to : goal.returns-then-not-leads_to
 returns-then-not-leads_to c =
     let q = c.requires in
-    let f = ap not c.if-not-first.true in
-    let r = c.leads_to in
-    let n = ap not c.if-not-leads_to.true in
+    let given = c.args.blocks.now.given in
+    let f = c.if-not-first.true in
+    let n = c.if-not-leads_to.true in
     record {
-      live_after = (
-        skipped _ _ _ _ _ q.given _ _ _ q.live_len.0 _ q.live_len.1 q.tracked f r.result r.ensures n,
-        differs_never _ _ _ _ _ q.given _ _,
-      );
-      tracked_after = tracked_skip _ _ _ _ _ q.given _ _ _ q.live_len.0 _ q.live_len.1 q.tracked f r.result r.ensures n;
+      live_after = (skipped _ _ _ _ _ given _ _ _ q.live_len.0 _ q.live_len.1 q.tracked f _ c.leads_to.ensures n, differs_never _ _ _ _ _ given _ _);
+      tracked_after = tracked_skip _ _ _ _ _ given _ _ _ q.live_len.0 _ q.live_len.1 q.tracked f _ c.leads_to.ensures n;
     }
 
-pub returns : goal.returns
-returns c =
+pub returns-clause-tracked_after : goal.returns-clause-tracked_after
+returns-clause-tracked_after c =
     let q = c.requires in
-    let v = c.visit-c.ensures in
-    record { live_after = v; tracked_after = tracked_turn _ _ _ _ _ q.given _ _ _ q.live_len.0 _ q.live_len.1 q.tracked _ v.0 _ v.1 }
+    let v = c.visit-changed.ensures in
+    tracked_turn _ _ _ _ _ c.args.blocks.now.given _ _ _ q.live_len.0 _ q.live_len.1 q.tracked _ v.0 _ v.1

@@ -5,4 +5,4 @@ use Rattle.rows.proofs.insert.Goals as goal
 
 pub returns : goal.returns
 unfolding with_at
-returns c = rw c.mask-m.ensures
+returns c = rw c.mask.ensures
