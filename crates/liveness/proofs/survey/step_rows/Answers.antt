@@ -4,13 +4,7 @@ use Rattle.liveness.proofs.Gathering.{step_joined}
 use borrow.Author.Rules.{rules}
 use Rattle.liveness.proofs.survey.step_rows.Goals as goal
 
-pub returns : goal.returns
-returns c =
-    let u = c.uses_at-next.ensures in (
-      u.0,
-      u.1,
-      u.2,
-      λ us fn ss.
-          step_joined _ us _ _ fn _ _ _ ss _ _ _ _ _ _ _ _ _ (search rules) (search rules) (search rules) u.4 u.3
-          c.copy_row.ensures c.less_from.ensures c.union_from.ensures c.union_from-2.ensures,
-    )
+pub returns-clause-joined : goal.returns-clause-joined
+returns-clause-joined c us fn ss =
+    step_joined _ us _ _ fn _ _ _ ss _ _ _ _ _ _ _ _ _ (search rules) (search rules) (search rules) c.uses_at-next.ensures.uses c.uses_at-next.ensures.behind
+    c.copy_row.ensures c.less_from.ensures c.union_from.ensures c.union_from-2.ensures

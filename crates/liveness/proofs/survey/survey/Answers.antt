@@ -8,16 +8,16 @@ use Rattle.liveness.proofs.survey.survey.Goals as goal
 pub loop-own-init : goal.loop-own-init
 loop-own-init c =
     let p = c.requires in
-    (p.0, p.1, p.2, p.3, growing_start _ _ _ _ c.args.findings.now _ _ (search rules, search rules, search rules, search rules, search rules, search rules) c.seek-c.ensures.0 c.seek-c.ensures.1)
+    (p, growing_start _ _ _ _ c.args.findings.now _ _ (search rules, search rules, search rules, search rules, search rules, search rules) c.seek-c.ensures.0 c.seek-c.ensures.1)
 
 pub take_block-w-requires : goal.take_block-w-requires
 take_block-w-requires c =
     let i = c.loop-own.invariant in
     let y = c.at_block.ensures.yes c.loop-own-test.true in
-    (i.0, i.1, i.2, i.3, i.4.within, y.1, y.0, i.4.tallied)
+    (i.0, i.1.within, y.1, y.0, i.1.tallied)
 
 pub overflow_add-b : goal.overflow_add-b
-overflow_add-b c = omega (arith, c.loop-own.invariant.4.few)
+overflow_add-b c = omega (arith, c.loop-own.invariant.1.few)
 
 pub loop-own-smaller : goal.loop-own-smaller
 loop-own-smaller c = omega (arith, c.take_block-w.ensures.on, c.take_block-w.ensures.fits)
@@ -26,18 +26,21 @@ pub loop-own-preserved : goal.loop-own-preserved
 loop-own-preserved c =
     let i = c.loop-own.invariant in
     let y = c.at_block.ensures.yes c.loop-own-test.true in
-    (i.0, i.1, i.2, i.3, growing_on _ _ _ _ _ _ _ _ i.4 _ _ _ y.0 i.0 c.take_block-w.ensures)
+    (i.0, growing_on _ _ _ _ _ _ _ _ i.1 _ _ _ y.0 c.args.source.short c.take_block-w.ensures)
 
 pub number_targets-requires : goal.number_targets-requires
-number_targets-requires c = (c.loop-own.invariant.4.few, omega (arith, c.loop-own.invariant.4.few), omega (arith, c.loop-own.invariant.4.targets_low, c.loop-own.invariant.4.sized.4))
+number_targets-requires c = (c.loop-own.invariant.1.few, omega (arith, c.loop-own.invariant.1.few), omega (arith, c.loop-own.invariant.1.targets_low, c.loop-own.invariant.1.sized.4))
 
 pub seek-after-requires : goal.seek-after-requires
-seek-after-requires c = (c.loop-own.invariant.0, c.loop-own.invariant.4.within.0)
+seek-after-requires c = (c.args.source.short, c.loop-own.invariant.1.within.0)
 
 pub returns : goal.returns
 returns c =
-    let i = c.loop-own.invariant in (
-      growing_given _ _ _ _ _ _ _ _ i.4 _ (search rules),
-      c.seek-after.ensures.0.sound,
-      growing_done _ _ _ _ _ _ _ _ i.4 _ _ _ c.loop-own-test.false c.at_block.ensures (search rules) (search rules) c.number_targets.ensures c.seek-after.ensures.0 c.seek-after.ensures.1,
-    )
+    let i = c.loop-own.invariant in
+    let z = i.1.sized in
+    record {
+      given = growing_given _ _ _ _ _ _ _ _ i.1 _ (search rules);
+      sized = (z.0, z.1, z.2, z.3, omega (arith, z.4), z.5);
+      sound = c.seek-after.ensures.0.sound;
+      surveyed = growing_done _ _ _ _ _ _ _ _ i.1 _ _ _ c.loop-own-test.false c.at_block.ensures (search rules) (search rules) c.number_targets.ensures c.seek-after.ensures.0 c.seek-after.ensures.1;
+    }

@@ -5,27 +5,27 @@ use Rattle.liveness.proofs.Taking.{target_fits, step_fits, taken_target, taken_o
 use Rattle.liveness.proofs.survey.take_record.Goals as goal
 
 pub u16_at-requires : goal.u16_at-requires
-u16_at-requires c = target_fits _ _ _ c.requires.5 c.if-kind-eq8.true
+u16_at-requires c = target_fits _ _ _ c.requires.2 c.if-kind-eq8.true
 
 pub returns-then-kind-eq8 : goal.returns-then-kind-eq8
 returns-then-kind-eq8 c =
     let p = c.requires in
-    taken_target _ _ _ _ _ _ _ _ _ _ p.4 p.5 p.6 _ c.if-kind-eq8.true (search rules) p.0 c.u16_at.ensures
+    taken_target _ _ _ _ _ _ _ _ _ _ p.1 p.2 p.3 _ c.if-kind-eq8.true (search rules) c.args.source.short c.u16_at.ensures
 
 pub returns-then-kind-eq6 : goal.returns-then-kind-eq6
 returns-then-kind-eq6 c =
     let p = c.requires in
-    taken_operand _ _ _ _ _ _ _ _ _ _ p.4 p.5 p.6 c.if-kind-eq6.true
+    taken_operand _ _ _ _ _ _ _ _ _ _ p.1 p.2 p.3 c.if-kind-eq6.true
 
 pub step_rows-next-requires : goal.step_rows-next-requires
 step_rows-next-requires c =
     let p = c.requires in
-    (p.0, p.1, p.2, p.3, p.4.0, step_fits _ _ _ p.5 c.if-kind-eq8.false c.if-kind-eq6.false, search rules, search rules)
+    record { site = (p.0, p.1.0, step_fits _ _ _ p.2 c.if-kind-eq8.false c.if-kind-eq6.false); rows = (search rules, search rules) }
 
 pub returns : goal.returns
 returns c =
     let p = c.requires in
     let b = c.row_for-b.ensures in
     let u = c.step_rows-next.ensures in
-    taken_step _ _ _ _ _ _ _ _ _ _ p.4 p.5 p.6 _ _ _ _ _ _ c.if-kind-eq8.false c.if-kind-eq6.false p.0 (search rules) (search rules) (search rules) (search rules) b.0 b.1
-    (search rules) (search rules) u.0 u.1 u.2 u.3
+    taken_step _ _ _ _ _ _ _ _ _ _ p.1 p.2 p.3 _ _ _ _ _ _ c.if-kind-eq8.false c.if-kind-eq6.false c.args.source.short (search rules) (search rules) (search rules) (search rules) b.0 b.1
+    (search rules) (search rules) u.sound.0 u.sound.1 u.sound.2 u.joined
