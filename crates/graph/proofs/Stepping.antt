@@ -4,11 +4,11 @@ use mathlib.Core.Path.{◌≡◌, refl, sym, ap, ap₂, ◌∙◌, subst}
 use mathlib.Core.Logic.{◌⊎◌, inl, inr}
 use mathlib.Core.Bool.{Bool, true, false, not, ◌||◌, or_comm, and-eq-true_iff}
 use mathlib.Core.List.{List, [], ◌∷◌, ◌++◌, map, Memᴰ}
-use Prim.Native.Nat.{ℕ, zero, suc, ◌+◌, ◌*◌, ◌-◌, ◌≤◌, ◌<◌}
+use Prim.Native.Nat.{ℕ, zero, suc, ◌+◌, ◌*◌, ◌<◌}
 use native.Mathlib.Omega.{arith}
 use borrow.Author.Tests.{ne_eqb, le-ltb}
 use lib.Dec.{eqb, ltb}
-use lib.ListN.{length, get_or, take, drop}
+use lib.ListN.{length, get_or, drop}
 use lib.Seq.{get_or-drop}
 use Rattle.rows.specs.Row.{row, put, or_row, less_row}
 use Rattle.rows.proofs.Tests.{either}
@@ -22,17 +22,19 @@ use Rattle.units.specs.Uses.{is_instruction, reads as reads_of, writes as writes
 use Rattle.units.specs.Rows.{unit_row}
 use Rattle.units.specs.Along.{from, step_from, IsStep, StandsAt, Ready}
 use Rattle.units.specs.declared.cursor.Cursor.{Cursor}
+use Rattle.units.specs.declared.locate.Site.{Site}
 use Rattle.liveness.specs.Flow.{Use, use_of}
 use Rattle.liveness.specs.Settle.{before}
-use Rattle.liveness.specs.Survey.{row_for, BeginAt, RowsAt}
+use Rattle.liveness.specs.Survey.{BeginAt, RowsAt}
+use Rattle.liveness.specs.declared.survey.Steps.{Steps}
+use Rattle.graph.specs.declared.basis.Basis.{Basis}
+use Rattle.graph.specs.declared.sketch.Sketch.{Sketch}
 use Rattle.liveness.proofs.SetLaws.{has_append, has_less, has_join}
 use Rattle.liveness.proofs.Rows.{row_or, row_less, row_same}
-use Rattle.liveness.proofs.Keeping.{row_for_kept, laid_at, lent_eight, rows_stay, rows_there}
-use Rattle.liveness.proofs.Gathering.{rows_kept}
 use Rattle.graph.specs.Graph.{is_copy}
 use Rattle.meetings.specs.Meeting.{met, copies_noted, addressed_noted}
 use Rattle.graph.specs.Gathered.{Stop, stops_in, Numbered, Within, UnitRows, Gathered, Paired, Addressed}
-use Rattle.graph.specs.Walking.{operation_at, across, uses_at, Noted, Told, use_at, Fits, Sized, Kept, Found, StepTaken, Rowed, BlockTaken}
+use Rattle.graph.specs.Walking.{operation_at, across, uses_at, Noted, file, Told, use_at, Fits, StepTaken, BlockTaken}
 use Rattle.graph.proofs.Meeting.{gathered_on, paired_on, paired_skip, addressed_on, addressed_skip}
 
 -- ---- the operation of a step
@@ -107,147 +109,113 @@ before_within us f fn [] out k w = w
 before_within us f fn (s ∷ ss) out k w =
     across_within us (use_at f fn s) (before (map (use_at f fn) ss) out) (k s (Memᴰ.head refl)).0 (before_within us f fn ss out (λ x m. k x (Memᴰ.tail m)) w)
 
--- ---- the rows of a step
-
-module _ (f found table : List ℕ) (own here : Cursor) (i b : ℕ) (reads writes : List ℕ) (eb : b ≡ row_for i) (room : b + 8 ≤ 520) where
-  pub found_kept : i < 64 → Found f found table own here i b reads writes reads writes
-  found_kept low =
-      let e : i * 8 ≡ b = omega (arith, eb, row_for_kept i low) in
-      record { room = room; kept = λ j h. (refl, refl); rows = λ us fn ready stands abis hs is rows. rw (← e) (rows.0 low) }
-
-  module _ (next : Cursor) (r w : List ℕ) where
-    -- what was asked of the step
-    abbrev Used : Type 0
-    Used = (us : List ℕ) (fn : Function) → Ready f us found table → StandsAt f own → fn.abis ≡ (from f own.at).abis → StandsAt f here → IsStep f here.at
-        → (r ≡ unit_row one us (reads_of one (program one f) fn (step_from f here.at))) × (w ≡ unit_row one us (writes_of one (program one f) (step_from f here.at))) × StandsAt f next
-
-    pub found_asked : 64 ≤ i → length reads ≡ 520 → length writes ≡ 520 → length r ≡ b + 8 - b → length w ≡ b + 8 - b → Used
-        → Found f found table own here i b reads writes (laid_at reads b r) (laid_at writes b w)
-    unfolding use_of
-    found_asked high lr lw nr nw used = record {
-      room = room;
-      kept = λ j h. (rows_stay reads r b i eb (omega arith) nr j (omega arith) h, rows_stay writes w b i eb (omega arith) nw j (omega arith) h);
-      rows = λ us fn ready stands abis hs is rows.
-          let u = used us fn ready stands abis hs is in
-          (rows_there reads r b i eb (omega arith) nr ∙ u.0, rows_there writes w b i eb (omega arith) nw ∙ u.1);
-    }
-
--- a row as it is lent
-pub part_row : (l : List ℕ) (b : ℕ) → take (b + 8 - b) (drop b l) ≡ row l b 8
-unfolding row
-part_row l b = ap (λ (n : ℕ). take n (drop b l)) (lent_eight b)
-
 -- ---- a step
 
-noted_pairs : (us words copies copies' : List ℕ) (ps : List Stop) (meets addressed : List ℕ) → Numbered us words → Noted us ps meets copies addressed → (s : Use) → Fits us s
-    → (b : Bool) → is_copy s ≡ b → copies' ≡ pick b (copies_noted copies words (unit_row one us s.reads) (unit_row one us s.writes)) copies → Paired (s ∷ uses_at ps) copies'
+noted_pairs : (us words copies' : List ℕ) (ps : List Stop) (sketch : Sketch) → Numbered us words → Noted us ps sketch → (s : Use) → Fits us s
+    → (b : Bool) → is_copy s ≡ b → copies' ≡ pick b (copies_noted sketch.copies words (unit_row one us s.reads) (unit_row one us s.writes)) sketch.copies → Paired (s ∷ uses_at ps) copies'
 unfolding pick
-noted_pairs us words copies copies' ps meets addressed k n s fits true q x = subst (Paired (s ∷ uses_at ps)) (sym x) (paired_on k n.paired s q fits.0 fits.1)
-noted_pairs us words copies copies' ps meets addressed k n s fits false q x = subst (Paired (s ∷ uses_at ps)) (sym x) (paired_skip n.paired s q)
+noted_pairs us words copies' ps sketch k n s fits true q x = subst (Paired (s ∷ uses_at ps)) (sym x) (paired_on k n.paired s q fits.0 fits.1)
+noted_pairs us words copies' ps sketch k n s fits false q x = subst (Paired (s ∷ uses_at ps)) (sym x) (paired_skip n.paired s q)
 
-noted_takes : (us words addressed addressed' : List ℕ) (ps : List Stop) (meets copies : List ℕ) → Numbered us words → Noted us ps meets copies addressed → (s : Use) → Fits us s
-    → (b : Bool) → is_instruction 16 s.step ≡ b → addressed' ≡ pick b (addressed_noted addressed words (unit_row one us s.reads)) addressed → Addressed (s ∷ uses_at ps) addressed'
+noted_takes : (us words addressed' : List ℕ) (ps : List Stop) (sketch : Sketch) → Numbered us words → Noted us ps sketch → (s : Use) → Fits us s
+    → (b : Bool) → is_instruction 16 s.step ≡ b → addressed' ≡ pick b (addressed_noted sketch.addressed words (unit_row one us s.reads)) sketch.addressed → Addressed (s ∷ uses_at ps) addressed'
 unfolding pick
-noted_takes us words addressed addressed' ps meets copies k n s fits true q x = subst (Addressed (s ∷ uses_at ps)) (sym x) (addressed_on k n.taken s q fits.0)
-noted_takes us words addressed addressed' ps meets copies k n s fits false q x = subst (Addressed (s ∷ uses_at ps)) (sym x) (addressed_skip n.taken s q)
+noted_takes us words addressed' ps sketch k n s fits true q x = subst (Addressed (s ∷ uses_at ps)) (sym x) (addressed_on k n.taken s q fits.0)
+noted_takes us words addressed' ps sketch k n s fits false q x = subst (Addressed (s ∷ uses_at ps)) (sym x) (addressed_skip n.taken s q)
 
 -- by the step as a use, whose rows are known
-module _ (us words units live meets copies addressed live' meets' copies' addressed' r w : List ℕ) (op : ℕ) (s : Use) where
-  noted_step : Numbered us words → UnitRows us words units → (out : List ℕ) (ps : List Stop) → Fits us s → Within us out → live ≡ unit_row one us out → Noted us ps meets copies addressed
+module _ (us words units live live' r w : List ℕ) (sketch sketch' : Sketch) (op : ℕ) (s : Use) where
+  noted_step : Numbered us words → UnitRows us words units → (out : List ℕ) (ps : List Stop) → Fits us s → Within us out → live ≡ unit_row one us out → Noted us ps sketch
       → r ≡ unit_row one us s.reads → w ≡ unit_row one us s.writes → is_copy s ≡ ltb op 2 → is_instruction 16 s.step ≡ eqb op 16
-      → meets' ≡ met meets units words live r w (ltb op 2) → copies' ≡ pick (ltb op 2) (copies_noted copies words r w) copies
-      → addressed' ≡ pick (eqb op 16) (addressed_noted addressed words r) addressed → live' ≡ or_row (less_row live w) r
-      → Noted us ((s, out) ∷ ps) meets' copies' addressed' × (live' ≡ unit_row one us (across s out))
+      → sketch'.meets ≡ met sketch.meets units words live r w (ltb op 2) → sketch'.copies ≡ pick (ltb op 2) (copies_noted sketch.copies words r w) sketch.copies
+      → sketch'.addressed ≡ pick (eqb op 16) (addressed_noted sketch.addressed words r) sketch.addressed → live' ≡ or_row (less_row live w) r
+      → Noted us ((s, out) ∷ ps) sketch' × (live' ≡ unit_row one us (across s out))
   noted_step k rows out ps fits wo e n er ew ec ed em ep ea el =
-      let me : meets' ≡ met meets units words (unit_row one us out) (unit_row one us s.reads) (unit_row one us s.writes) (is_copy s) =
-      em ∙ ap₂ (λ (l : List ℕ) (b : Bool). met meets units words l r w b) e (sym ec)
-      ∙ ap₂ (λ (x y : List ℕ). met meets units words (unit_row one us out) x y (is_copy s)) er ew in
-      let pe : copies' ≡ pick (ltb op 2) (copies_noted copies words (unit_row one us s.reads) (unit_row one us s.writes)) copies =
-      ep ∙ ap₂ (λ (x y : List ℕ). pick (ltb op 2) (copies_noted copies words x y) copies) er ew in
-      let ae : addressed' ≡ pick (eqb op 16) (addressed_noted addressed words (unit_row one us s.reads)) addressed =
-      ea ∙ ap (λ (x : List ℕ). pick (eqb op 16) (addressed_noted addressed words x) addressed) er in
+      let me : sketch'.meets ≡ met sketch.meets units words (unit_row one us out) (unit_row one us s.reads) (unit_row one us s.writes) (is_copy s) =
+      em ∙ ap₂ (λ (l : List ℕ) (b : Bool). met sketch.meets units words l r w b) e (sym ec)
+      ∙ ap₂ (λ (x y : List ℕ). met sketch.meets units words (unit_row one us out) x y (is_copy s)) er ew in
+      let pe : sketch'.copies ≡ pick (ltb op 2) (copies_noted sketch.copies words (unit_row one us s.reads) (unit_row one us s.writes)) sketch.copies =
+      ep ∙ ap₂ (λ (x y : List ℕ). pick (ltb op 2) (copies_noted sketch.copies words x y) sketch.copies) er ew in
+      let ae : sketch'.addressed ≡ pick (eqb op 16) (addressed_noted sketch.addressed words (unit_row one us s.reads)) sketch.addressed =
+      ea ∙ ap (λ (x : List ℕ). pick (eqb op 16) (addressed_noted sketch.addressed words x) sketch.addressed) er in
       let le : live' ≡ unit_row one us (across s out) =
       el ∙ ap₂ (λ (l x : List ℕ). or_row (less_row l x) r) e ew ∙ ap (λ (x : List ℕ). or_row (less_row (unit_row one us out) (unit_row one us s.writes)) x) er ∙ row_across us s out in (
         record {
           gathered = subst (Gathered us ((s, out) ∷ ps)) (sym me) (gathered_on k rows n.gathered s out fits.0 fits.1 wo);
-          paired = noted_pairs us words copies copies' ps meets addressed k n s fits (ltb op 2) ec pe;
-          taken = noted_takes us words addressed addressed' ps meets copies k n s fits (eqb op 16) ed ae;
+          paired = noted_pairs us words sketch'.copies ps sketch k n s fits (ltb op 2) ec pe;
+          taken = noted_takes us words sketch'.addressed ps sketch k n s fits (eqb op 16) ed ae;
         },
         le,
       )
 
-module _ (f found table : List ℕ) (own here : Cursor) (i b : ℕ) (reads writes reads' writes' words units live meets copies addressed live' meets' copies' addressed' r w : List ℕ) (op : ℕ) where
-  pub step_taken : op ≡ operation_at f here.at → Found f found table own here i b reads writes reads' writes' → r ≡ row reads' b 8 → w ≡ row writes' b 8
-      → meets' ≡ met meets units words live r w (ltb op 2) → copies' ≡ pick (ltb op 2) (copies_noted copies words r w) copies
-      → addressed' ≡ pick (eqb op 16) (addressed_noted addressed words r) addressed → live' ≡ or_row (less_row live w) r
-      → StepTaken f found table own here i reads writes words units live meets copies addressed reads' writes' live' meets' copies' addressed'
+-- the rows that a step is noted by
+abbrev pub Rows : Basis → Site → ℕ → Steps → List ℕ → List ℕ → Type 0
+Rows basis site i steps r w = (us : List ℕ) (fn : Function) → Told basis us fn site.own → StandsAt (file basis) site.here → IsStep (file basis) site.here.at
+    → RowsAt (file basis) us fn steps.reads steps.writes i (step_from (file basis) site.here.at ∷ [])
+    → (r ≡ unit_row one us (use_at (file basis) fn (step_from (file basis) site.here.at)).reads) × (w ≡ unit_row one us (use_at (file basis) fn (step_from (file basis) site.here.at)).writes)
+
+module _ (basis : Basis) (site : Site) (i : ℕ) (steps : Steps) (r w : List ℕ) where
+  -- those that the survey kept
+  pub rows_kept_at : i < 64 → r ≡ row steps.reads (i * 8) 8 → w ≡ row steps.writes (i * 8) 8 → Rows basis site i steps r w
+  rows_kept_at low er ew us fn t hs is rows = (er ∙ (rows.0 low).0, ew ∙ (rows.0 low).1)
+
+  -- those that are asked again
+  pub rows_asked : (next : Cursor)
+      → ((us : List ℕ) (fn : Function) → Ready (file basis) us basis.source.numbers.now basis.source.table.now → StandsAt (file basis) site.own → fn.abis ≡ (from (file basis) site.own.at).abis
+      → StandsAt (file basis) site.here → IsStep (file basis) site.here.at
+      → (r ≡ unit_row one us (reads_of one (program one (file basis)) fn (step_from (file basis) site.here.at))) × (w ≡ unit_row one us (writes_of one (program one (file basis)) (step_from (file basis) site.here.at)))
+      × StandsAt (file basis) next)
+      → Rows basis site i steps r w
   unfolding use_of
-  step_taken eo there er ew em ep ea el = record {
-    kept = there.kept;
+  rows_asked next used us fn t hs is rows = let u = used us fn t.ready t.stands t.abis hs is in (u.0, u.1)
+
+  pub step_taken : (live live' : List ℕ) (sketch sketch' : Sketch) (op : ℕ) → op ≡ operation_at (file basis) site.here.at → Rows basis site i steps r w
+      → sketch'.meets ≡ met sketch.meets basis.units.now basis.words.now live r w (ltb op 2) → sketch'.copies ≡ pick (ltb op 2) (copies_noted sketch.copies basis.words.now r w) sketch.copies
+      → sketch'.addressed ≡ pick (eqb op 16) (addressed_noted sketch.addressed basis.words.now r) sketch.addressed → live' ≡ or_row (less_row live w) r
+      → StepTaken basis site i steps live sketch live' sketch'
+  unfolding use_of
+  step_taken live live' sketch sketch' op eo there em ep ea el = record {
     noted = λ us fn out ps t hs is rows fits wo e n.
-        let u = there.rows us fn t.ready t.stands t.abis hs is rows in
-        noted_step us words units live meets copies addressed live' meets' copies' addressed' r w op (use_at f fn (step_from f here.at)) t.numbered t.rows out ps fits wo e n
-        (er ∙ u.0) (ew ∙ u.1) (copy_is f here.at is ∙ ap (λ (x : ℕ). ltb x 2) (sym eo)) (op_is f here.at 16 (omega arith) is ∙ ap (λ (x : ℕ). eqb x 16) (sym eo)) em ep ea el;
+        let u = there us fn t hs is rows in
+        noted_step us basis.words.now basis.units.now live live' r w sketch sketch' op (use_at (file basis) fn (step_from (file basis) site.here.at)) t.numbered t.rows out ps fits wo e n
+        u.0 u.1 (copy_is (file basis) site.here.at is ∙ ap (λ (x : ℕ). ltb x 2) (sym eo)) (op_is (file basis) site.here.at 16 (omega arith) is ∙ ap (λ (x : ℕ). eqb x 16) (sym eo)) em ep ea el;
   }
 
 -- ---- the steps of a block
 
--- rows that are kept stay so, step after step
-pub kept_on : (reads writes reads₁ writes₁ reads' writes' : List ℕ) → Kept reads writes reads₁ writes₁ → Kept reads₁ writes₁ reads' writes' → Kept reads writes reads' writes'
-kept_on reads writes reads₁ writes₁ reads' writes' a b j h = ((b j h).0 ∙ (a j h).0, (b j h).1 ∙ (a j h).1)
-
-pub rows_on : (f us : List ℕ) (fn : Function) (reads writes reads' writes' : List ℕ) (i : ℕ) (ss : List Step) → Kept reads writes reads' writes'
-    → RowsAt f us fn reads writes i ss → RowsAt f us fn reads' writes' i ss
-rows_on f us fn reads writes reads' writes' i ss k = rows_kept f us fn reads writes reads' writes' i (i + length ss) ss (omega arith) (λ j _ h. (k j h).0) (λ j _ h. (k j h).1)
-
-module _ (f found table : List ℕ) (own : Cursor) (places counts words units : List ℕ) (last : ℕ) (reads writes live meets copies addressed : List ℕ) where
-  pub block_none : length live ≡ 8 → Sized meets copies addressed → Rowed reads writes
-      → BlockTaken f found table own places counts words units last last reads writes live meets copies addressed reads writes live meets copies addressed
+module _ (basis : Basis) (own : Cursor) (steps : Steps) (last : ℕ) (live : List ℕ) (sketch : Sketch) where
+  pub block_none : BlockTaken basis own steps last last live sketch live sketch
   unfolding stops_in before
-  block_none l z r = record { live_len = l; sized = z; rowed = r; kept = λ j h. (refl, refl); upto = omega arith; noted = noted }
+  block_none = record { upto = omega arith; noted = noted }
     where
-      noted : (us : List ℕ) (fn : Function) (ss : List Step) (out : List ℕ) (ps : List Stop) → Told f us found table words units fn own
-          → BeginAt f places counts last ss → RowsAt f us fn reads writes last ss → last ≡ last + length ss → ((s : Step) → Memᴰ s ss → Fits us (use_at f fn s)) → Within us out
-          → live ≡ unit_row one us out → Noted us ps meets copies addressed
-          → Noted us (stops_in (map (use_at f fn) ss) out ++ ps) meets copies addressed × (live ≡ unit_row one us (before (map (use_at f fn) ss) out))
+      noted : (us : List ℕ) (fn : Function) (ss : List Step) (out : List ℕ) (ps : List Stop) → Told basis us fn own
+          → BeginAt (file basis) steps.places steps.counts last ss → RowsAt (file basis) us fn steps.reads steps.writes last ss → last ≡ last + length ss
+          → ((s : Step) → Memᴰ s ss → Fits us (use_at (file basis) fn s)) → Within us out → live ≡ unit_row one us out → Noted us ps sketch
+          → Noted us (stops_in (map (use_at (file basis) fn) ss) out ++ ps) sketch × (live ≡ unit_row one us (before (map (use_at (file basis) fn) ss) out))
       noted us fn [] out ps t b r e k w el n = (n, el)
       noted us fn (s ∷ ss) out ps t b r e k w el n = absurd (omega arith)
 
-  module _ (i j : ℕ) (reads₁ writes₁ live₁ meets₁ copies₁ addressed₁ reads' writes' live' meets' copies' addressed' : List ℕ) (here : Cursor) (p : i ≡ j + 1) (ha : here.at ≡ get_or places j 0) (hk : here.k ≡ get_or counts j 0)
-      (b : BlockTaken f found table own places counts words units last i reads writes live meets copies addressed reads₁ writes₁ live₁ meets₁ copies₁ addressed₁)
-      (step : StepTaken f found table own here j reads₁ writes₁ words units live₁ meets₁ copies₁ addressed₁ reads' writes' live' meets' copies' addressed') where
-    more_noted : (us : List ℕ) (fn : Function) (ss : List Step) (out : List ℕ) (ps : List Stop) → Told f us found table words units fn own
-        → BeginAt f places counts j ss → RowsAt f us fn reads writes j ss → last ≡ j + length ss → ((s : Step) → Memᴰ s ss → Fits us (use_at f fn s)) → Within us out
-        → live ≡ unit_row one us out → Noted us ps meets copies addressed
-        → Noted us (stops_in (map (use_at f fn) ss) out ++ ps) meets' copies' addressed' × (live' ≡ unit_row one us (before (map (use_at f fn) ss) out))
+  module _ (i j : ℕ) (live₁ live' : List ℕ) (sketch₁ sketch' : Sketch) (here : Cursor) (p : i ≡ j + 1) (ha : here.at ≡ get_or steps.places j 0) (hk : here.k ≡ get_or steps.counts j 0)
+      (b : BlockTaken basis own steps last i live sketch live₁ sketch₁)
+      (step : StepTaken basis (record { own = own; here = here }) j steps live₁ sketch₁ live' sketch') where
+    more_noted : (us : List ℕ) (fn : Function) (ss : List Step) (out : List ℕ) (ps : List Stop) → Told basis us fn own
+        → BeginAt (file basis) steps.places steps.counts j ss → RowsAt (file basis) us fn steps.reads steps.writes j ss → last ≡ j + length ss
+        → ((s : Step) → Memᴰ s ss → Fits us (use_at (file basis) fn s)) → Within us out → live ≡ unit_row one us out → Noted us ps sketch
+        → Noted us (stops_in (map (use_at (file basis) fn) ss) out ++ ps) sketch' × (live' ≡ unit_row one us (before (map (use_at (file basis) fn) ss) out))
     unfolding stops_in before
     more_noted us fn [] out ps t g r e k w el n = absurd (omega (arith, b.upto))
     more_noted us fn (s ∷ ss) out ps t g r e k w el n =
-        let prev = b.noted us fn ss out ps t (subst (λ (x : ℕ). BeginAt f places counts x ss) (sym p) g.1) (subst (λ (x : ℕ). RowsAt f us fn reads writes x ss) (sym p) r.1) (omega arith) (λ x m. k x (Memᴰ.tail m)) w el n in
+        let f = file basis in
+        let prev = b.noted us fn ss out ps t (subst (λ (x : ℕ). BeginAt f steps.places steps.counts x ss) (sym p) g.1) (subst (λ (x : ℕ). RowsAt f us fn steps.reads steps.writes x ss) (sym p) r.1) (omega arith) (λ x m. k x (Memᴰ.tail m)) w el n in
         let q : step_from f here.at ≡ s = ap (step_from f) ha ∙ g.0.2 in
         let hs : StandsAt f here = rw (ha, hk) g.0.0 in
         let is : IsStep f here.at = subst (IsStep f) (sym ha) g.0.1 in
-        let rows : RowsAt f us fn reads₁ writes₁ j (step_from f here.at ∷ []) =
-        subst (λ (x : Step). RowsAt f us fn reads₁ writes₁ j (x ∷ [])) (sym q) (rows_on f us fn reads writes reads₁ writes₁ j (s ∷ []) b.kept (r.0, tt)) in
+        let rows : RowsAt f us fn steps.reads steps.writes j (step_from f here.at ∷ []) = subst (λ (x : Step). RowsAt f us fn steps.reads steps.writes j (x ∷ [])) (sym q) (r.0, tt) in
         let fits : Fits us (use_at f fn (step_from f here.at)) = subst (λ (x : Step). Fits us (use_at f fn x)) (sym q) (k s (Memᴰ.head refl)) in
-        subst (λ (x : Step). Noted us ((use_at f fn x, before (map (use_at f fn) ss) out) ∷ (stops_in (map (use_at f fn) ss) out ++ ps)) meets' copies' addressed'
+        subst (λ (x : Step). Noted us ((use_at f fn x, before (map (use_at f fn) ss) out) ∷ (stops_in (map (use_at f fn) ss) out ++ ps)) sketch'
         × (live' ≡ unit_row one us (across (use_at f fn x) (before (map (use_at f fn) ss) out)))) q
         (step.noted us fn (before (map (use_at f fn) ss) out) (stops_in (map (use_at f fn) ss) out ++ ps) t hs is rows fits
         (before_within us f fn ss out (λ x m. k x (Memᴰ.tail m)) w) prev.1 prev.0)
 
-    pub block_more : length live' ≡ 8 → Sized meets' copies' addressed' → Rowed reads' writes'
-        → BlockTaken f found table own places counts words units last j reads writes live meets copies addressed reads' writes' live' meets' copies' addressed'
-    block_more l z r = record {
-      live_len = l;
-      sized = z;
-      rowed = r;
-      kept = kept_on reads writes reads₁ writes₁ reads' writes' b.kept step.kept;
-      upto = omega (arith, b.upto);
-      noted = more_noted;
-    }
-
-  pub block_whole : (first i : ℕ) (reads' writes' live' meets' copies' addressed' : List ℕ) → first ≤ i → i ≤ first
-      → BlockTaken f found table own places counts words units last i reads writes live meets copies addressed reads' writes' live' meets' copies' addressed'
-      → BlockTaken f found table own places counts words units last first reads writes live meets copies addressed reads' writes' live' meets' copies' addressed'
-  block_whole first i reads' writes' live' meets' copies' addressed' a b h =
-      let e : i ≡ first = omega arith in subst (λ (x : ℕ). BlockTaken f found table own places counts words units last x reads writes live meets copies addressed reads' writes' live' meets' copies' addressed') e h
+    pub block_more : BlockTaken basis own steps last j live sketch live' sketch'
+    block_more = record { upto = omega (arith, b.upto); noted = more_noted }

@@ -34,7 +34,9 @@ use Rattle.liveness.proofs.Onward.{kind_at, from_past, from_by, from_kind, read_
 use Rattle.graph.specs.Graph.{sum, passes}
 use Rattle.graph.specs.Graphs.{last_live}
 use Rattle.graph.specs.Gathered.{Stop, stops_of, stops}
-use Rattle.graph.specs.Walking.{Noted, Told, Owner, FunctionTaken, Granted, FunctionNext, stops_by, passes_by, Walked, AllTaken}
+use Rattle.graph.specs.declared.basis.Basis.{Basis}
+use Rattle.graph.specs.declared.sketch.Sketch.{Sketch}
+use Rattle.graph.specs.Walking.{Noted, file, Told, Owner, FunctionTaken, Granted, Fresh, FunctionNext, stops_by, passes_by, Walked, AllTaken}
 use Rattle.graph.proofs.Meeting.{gathered_none, paired_none, addressed_none}
 
 -- ---- the function that stands at a cursor
@@ -159,27 +161,28 @@ module _ (l l' l'' : List ℕ) (count : ℕ) (held : Held l count) (few : count 
       (λ i h. rw e' (cleared l' 1024 (count * 8) (0 + i) (omega arith) (first_cleared (0 + i))) ∙ sym (get_or_none 2048 (0 + i)))
       ∙ row_whole (replicate 2048 0) 2048 (omega (arith, z))
 
-module _ (f us found table words units : List ℕ) (g : Granted f us found table words units) where
-  pub walked_none : (c : Cursor) (rows meets copies addressed : List ℕ) → Came f false 0 0 c.at c.k → Stopped f false c.at
-      → rows ≡ blank 2048 → meets ≡ blank 2048 → copies ≡ blank 1024 → addressed ≡ blank 4 → Walked f us c 0 rows meets copies addressed
+module _ (basis : Basis) (us : List ℕ) (g : Granted basis us) where
+  abbrev f : List ℕ
+  f = file basis
+
+  pub walked_none : (c : Cursor) (rows : List ℕ) (sketch : Sketch) → Came f false 0 0 c.at c.k → Stopped f false c.at → rows ≡ blank 2048 → Fresh sketch → Walked f us c 0 rows sketch
   unfolding blank last_live laid program each sum
-  walked_none c rows meets copies addressed came st er em ec ea = record {
+  walked_none c rows sketch came st er z = record {
     done = [];
     splits = sym came.sought.function;
     stands = came.stands us g.ready.accepted (stands_start f);
     last = st.function refl;
     noted = record {
-      gathered = rw em (gathered_none us);
-      paired = rw ec paired_none;
-      taken = rw ea addressed_none;
+      gathered = rw z.meets (gathered_none us);
+      paired = rw z.copies paired_none;
+      taken = rw z.addressed addressed_none;
     };
     sums = refl;
     few = omega arith;
     live = er;
   }
 
-  module _ (c own after : Cursor) (n passes' blocks' : ℕ) (rows meets copies addressed rows' meets' copies' addressed' : List ℕ) (w : Walked f us c n rows meets copies addressed)
-      (h : FunctionHere f c.at) (ea : own.at ≡ c.at + 2) (ek : own.k ≡ c.k) where
+  module _ (c own : Cursor) (n : ℕ) (rows : List ℕ) (sketch : Sketch) (w : Walked f us c n rows sketch) (h : FunctionHere f c.at) (ea : own.at ≡ c.at + 2) (ek : own.k ≡ c.k) where
     abbrev fn : Function
     fn = function_from f (u8_at (drop c.at f) 1) own.at
 
@@ -192,7 +195,7 @@ module _ (f us found table words units : List ℕ) (g : Granted f us found table
     own_stands : StandsAt f own
     own_stands = rw (ea, ek) (stands_there f c.at h us c.k g.ready.accepted w.stands)
 
-    pub next_owner : Owner f found table own
+    pub next_owner : Owner basis own
     next_owner = record { us = us; fn = fn; ready = g.ready; stands = own_stands; member = next_in; abis = refl; blocks = refl }
 
     pub next_room : length f ≤ 16384 → n + 130 ≤ 130 * 16385
@@ -200,34 +203,35 @@ module _ (f us found table words units : List ℕ) (g : Granted f us found table
     next_room l =
         omega (arith, w.few, functions_few f 16384 0 (omega arith), ap length w.splits, length-append w.done (from f c.at).functions)
 
-    pub walked_more : FunctionTaken f found table own words units meets copies addressed rows' meets' copies' addressed' passes' blocks' after → Walked f us after (n + passes') rows' meets' copies' addressed'
-    walked_more t =
-        let told : Told f us found table words units fn own = record { ready = g.ready; stands = own_stands; abis = refl; numbered = g.numbered; rows = g.rows } in
-        let q = t.noted us fn (stops_by f w.done) told next_in refl w.noted in
-        record {
-          done = w.done ++ (fn ∷ []);
-          splits = w.splits ∙ ap (λ (l : List Function). w.done ++ l) (next_are ∙ ap (λ (l : List Function). fn ∷ l) (sym q.3.1)) ∙ sym (append_assoc w.done (fn ∷ []) (from f after.at).functions);
-          stands = q.3.0;
-          last = q.3.2;
-          noted = subst (λ (l : List Stop). Noted us l meets' copies' addressed') (sym (each_more (λ (x : Function). stops_of (flows one (program one f) x)) w.done fn)) q.0;
-          sums = ap₂ (λ (x y : ℕ). x + y) w.sums q.1 ∙ sym (sum_more (λ (x : Function). (liveness one (program one f) x).passes) w.done fn);
-          few = omega (arith, w.few, t.few, length-append w.done (fn ∷ []));
-          live = q.2 ∙ sym (last_more f us w.done fn);
-        }
+    module _ (after : Cursor) (passes' blocks' : ℕ) (rows' : List ℕ) (sketch' : Sketch) (t : FunctionTaken basis own sketch rows' sketch' passes' blocks' after) where
+      told : Told basis us fn own
+      told = record { ready = g.ready; stands = own_stands; abis = refl; numbered = g.numbered; rows = g.rows }
 
-    pub next_less : FunctionTaken f found table own words units meets copies addressed rows' meets' copies' addressed' passes' blocks' after
-        → length (from f after.at).functions < length (from f c.at).functions
-    next_less t =
-        let told : Told f us found table words units fn own = record { ready = g.ready; stands = own_stands; abis = refl; numbered = g.numbered; rows = g.rows } in
-        let q = t.noted us fn (stops_by f w.done) told next_in refl w.noted in
-        omega (arith, ap length q.3.1, ap length next_are)
+      pub walked_more : Walked f us after (n + passes') rows' sketch'
+      walked_more =
+          let q = t.noted us fn (stops_by f w.done) told next_in refl w.noted in
+          record {
+            done = w.done ++ (fn ∷ []);
+            splits = w.splits ∙ ap (λ (l : List Function). w.done ++ l) (next_are ∙ ap (λ (l : List Function). fn ∷ l) (sym q.3.1)) ∙ sym (append_assoc w.done (fn ∷ []) (from f after.at).functions);
+            stands = q.3.0;
+            last = q.3.2;
+            noted = subst (λ (l : List Stop). Noted us l sketch') (sym (each_more (λ (x : Function). stops_of (flows one (program one f) x)) w.done fn)) q.0;
+            sums = ap₂ (λ (x y : ℕ). x + y) w.sums q.1 ∙ sym (sum_more (λ (x : Function). (liveness one (program one f) x).passes) w.done fn);
+            few = omega (arith, w.few, t.few, length-append w.done (fn ∷ []));
+            live = q.2 ∙ sym (last_more f us w.done fn);
+          }
 
-  pub walked_all : (c : Cursor) (n : ℕ) (rows meets copies addressed : List ℕ) → Walked f us c n rows meets copies addressed → (FunctionHere f c.at → ⊥) → AllTaken f us n rows meets copies addressed
+      pub next_less : length (from f after.at).functions < length (from f c.at).functions
+      next_less =
+          let q = t.noted us fn (stops_by f w.done) told next_in refl w.noted in
+          omega (arith, ap length q.3.1, ap length next_are)
+
+  pub walked_all : (c : Cursor) (n : ℕ) (rows : List ℕ) (sketch : Sketch) → Walked f us c n rows sketch → (FunctionHere f c.at → ⊥) → AllTaken f us n rows sketch
   unfolding stops passes
-  walked_all c n rows meets copies addressed w away =
+  walked_all c n rows sketch w away =
       let e : w.done ≡ (program one f).functions = sym (w.splits ∙ ap (λ (l : List Function). w.done ++ l) (w.last away) ∙ append-nil w.done) in
       record {
-        noted = subst (λ (l : List Function). Noted us (stops_by f l) meets copies addressed) e w.noted;
+        noted = subst (λ (l : List Function). Noted us (stops_by f l) sketch) e w.noted;
         sums = w.sums ∙ ap (passes_by f) e;
         live = w.live ∙ ap (last_live one us (program one f)) e;
       }

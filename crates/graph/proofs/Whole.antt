@@ -17,7 +17,9 @@ use Rattle.liveness.proofs.SettleLaws.{settled_outs}
 use Rattle.graph.specs.Graph.{uses_of, all_uses, copied}
 use Rattle.graph.specs.Graphs.{relation_rows, Graphs, Outcome}
 use Rattle.graph.specs.Gathered.{Stop, stops_in, stops_from, stops_of, stops, Paired, Addressed}
-use Rattle.graph.specs.Walking.{uses_at, Noted, Granted, AllTaken, Counted, Whole}
+use Rattle.graph.specs.declared.basis.Basis.{Basis}
+use Rattle.graph.specs.declared.sketch.Sketch.{Sketch}
+use Rattle.graph.specs.Walking.{uses_at, Noted, file, Granted, AllTaken, Counted, Whole}
 use Rattle.meetings.specs.Meeting.{unit_rows}
 use Rattle.meetings.specs.Closing.{closed, Above, held_by}
 use Rattle.graph.proofs.Closing.{graph_is, copies_is}
@@ -48,14 +50,14 @@ pub uses_all : (f : List ℕ) → uses_at (stops one (program one f)) ≡ all_us
 unfolding stops all_uses
 uses_all f = uses_each f (program one f).functions
 
-module _ (f us meets copies addressed : List ℕ) (n : Noted us (stops one (program one f)) meets copies addressed) where
-  pub paired_all : Paired (all_uses one (program one f)) copies
-  paired_all = subst (λ (l : List Use). Paired l copies) (uses_all f) n.paired
+module _ (f us : List ℕ) (sketch : Sketch) (n : Noted us (stops one (program one f)) sketch) where
+  pub paired_all : Paired (all_uses one (program one f)) sketch.copies
+  paired_all = subst (λ (l : List Use). Paired l sketch.copies) (uses_all f) n.paired
 
-  pub addressed_all : Addressed (all_uses one (program one f)) addressed
-  addressed_all = subst (λ (l : List Use). Addressed l addressed) (uses_all f) n.taken
+  pub addressed_all : Addressed (all_uses one (program one f)) sketch.addressed
+  addressed_all = subst (λ (l : List Use). Addressed l sketch.addressed) (uses_all f) n.taken
 
-  pub copies_all : copies ≡ relation_rows one (copied one (program one f)) 0 256
+  pub copies_all : sketch.copies ≡ relation_rows one (copied one (program one f)) 0 256
   copies_all = copies_is (program one f) paired_all
 
 -- Any two outcomes that the contract of graph permits coincide.
@@ -69,23 +71,23 @@ pub blank_is : (n : ℕ) → replicate n 0 ≡ blank n
 unfolding blank
 blank_is n = refl
 
-pub granted_all : (f us found table words rows : List ℕ) (count : ℕ) → Counted f us found table words count
-    → rows ≡ unit_rows words count (replicate 2048 0) → Granted f us found table words rows
-granted_all f us found table words rows count c e = record {
+pub granted_all : (basis : Basis) (us : List ℕ) (count : ℕ) → Counted (file basis) us basis.source.numbers.now basis.source.table.now basis.words.now count
+    → basis.units.now ≡ unit_rows basis.words.now count (replicate 2048 0) → Granted basis us
+granted_all basis us count c e = record {
   ready = c.ready;
-  numbered = record { few = units_most_lem f us c.ready.accepted; words_are = c.words_are };
-  rows = e ∙ ap (λ (n : ℕ). unit_rows words n (replicate 2048 0)) c.many;
+  numbered = record { few = units_most_lem (file basis) us c.ready.accepted; words_are = c.words_are };
+  rows = e ∙ ap (λ (n : ℕ). unit_rows basis.words.now n (replicate 2048 0)) c.many;
 }
 
-pub whole_all : (f us found table words : List ℕ) (count passes : ℕ) (rows meets copies addressed graph graph₁ graph' : List ℕ) → Counted f us found table words count
-    → AllTaken f us passes rows meets copies addressed → graph ≡ blank 1024 → (n : ℕ) → (n ≤ 256) × Above words count n → graph₁ ≡ closed meets words n graph
-    → graph' ≡ held_by f addressed graph₁
+pub whole_all : (f us found table words : List ℕ) (count passes : ℕ) (rows : List ℕ) (sketch : Sketch) (graph graph₁ graph' copies : List ℕ) → Counted f us found table words count
+    → AllTaken f us passes rows sketch → graph ≡ blank 1024 → (n : ℕ) → (n ≤ 256) × Above words count n → graph₁ ≡ closed sketch.meets words n graph
+    → graph' ≡ held_by f sketch.addressed graph₁ → copies ≡ sketch.copies
     → Whole f us passes rows graph' copies
 unfolding blank
-whole_all f us found table words count passes rows meets copies addressed graph graph₁ graph' c t e n a p q = record {
+whole_all f us found table words count passes rows sketch graph graph₁ graph' copies c t e n a p q ec = record {
   sums = t.sums;
   live = t.live;
-  graph_is = q ∙ ap (held_by f addressed) (p ∙ ap (closed meets words n) e)
-      ∙ graph_is (program one f) f (record { few = units_most_lem f us c.ready.accepted; words_are = c.words_are }) t.noted.gathered (addressed_all f us meets copies addressed t.noted) (declared_is f us c.ready.accepted) n a.0 (subst (λ (m : ℕ). Above words m n) c.many a.1);
-  copies_are = copies_all f us meets copies addressed t.noted;
+  graph_is = q ∙ ap (held_by f sketch.addressed) (p ∙ ap (closed sketch.meets words n) e)
+      ∙ graph_is (program one f) f (record { few = units_most_lem f us c.ready.accepted; words_are = c.words_are }) t.noted.gathered (addressed_all f us sketch t.noted) (declared_is f us c.ready.accepted) n a.0 (subst (λ (m : ℕ). Above words m n) c.many a.1);
+  copies_are = ec ∙ copies_all f us sketch t.noted;
 }

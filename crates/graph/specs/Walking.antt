@@ -11,13 +11,18 @@ use Rattle.units.specs.Sets.{less, each}
 use Rattle.units.specs.Rows.{unit_row}
 use Rattle.units.specs.Along.{from, step_from, IsStep, StandsAt, Sound, Ready}
 use Rattle.units.specs.declared.cursor.Cursor.{Cursor}
-use Rattle.passes.specs.Passes.{Held}
+use Rattle.units.specs.declared.locate.Site.{Site}
+use Rattle.passes.specs.Passes.{blank, Held}
 use Rattle.liveness.specs.Sets.{join}
 use Rattle.liveness.specs.Flow.{Use, use_of, flows}
 use Rattle.liveness.specs.Settle.{before, settled_by, liveness}
 use Rattle.liveness.specs.Lives.{live_words}
 use Rattle.liveness.specs.Walks.{FunctionHere}
 use Rattle.liveness.specs.Survey.{block_at, BeginAt, RowsAt}
+use Rattle.liveness.specs.declared.survey.Steps.{Steps}
+use Rattle.liveness.specs.declared.survey.Findings.{Findings}
+use Rattle.graph.specs.declared.basis.Basis.{Basis}
+use Rattle.graph.specs.declared.sketch.Sketch.{Sketch}
 use Rattle.graph.specs.Graph.{sum, interferes, copied, passes as passes_of}
 use Rattle.graph.specs.Graphs.{relation_rows, last_live}
 use Rattle.graph.specs.Gathered.{Stop, stops_in, stops_from, stops_of, stops, Numbered, Within, UnitRows, Gathered, Paired, Addressed}
@@ -34,19 +39,23 @@ across s out = join s.reads (less out s.writes)
 abbrev pub uses_at : List Stop → List Use
 uses_at ps = map (λ (p : Stop). p.0) ps
 
--- What the three buffers hold once these steps are noted.
-pub record Noted (us : List ℕ) (ps : List Stop) (meets copies addressed : List ℕ) : Type 0 where
-  pub gathered : Gathered us ps meets
-  pub paired : Paired (uses_at ps) copies
-  pub taken : Addressed (uses_at ps) addressed
+-- What the sketch holds once these steps are noted.
+pub record Noted (us : List ℕ) (ps : List Stop) (sketch : Sketch) : Type 0 where
+  pub gathered : Gathered us ps sketch.meets
+  pub paired : Paired (uses_at ps) sketch.copies
+  pub taken : Addressed (uses_at ps) sketch.addressed
+
+-- The file that steps are noted of.
+abbrev pub file : Basis → List ℕ
+file basis = basis.source.file.now
 
 -- An accepted file, a function whose records begin at a cursor, the unit words and the rows of each storage's units.
-pub record Told (f us found table words units : List ℕ) (fn : Function) (own : Cursor) : Type 0 where
-  pub ready : Ready f us found table
-  pub stands : StandsAt f own
-  pub abis : fn.abis ≡ (from f own.at).abis
-  pub numbered : Numbered us words
-  pub rows : UnitRows us words units
+pub record Told (basis : Basis) (us : List ℕ) (fn : Function) (own : Cursor) : Type 0 where
+  pub ready : Ready (file basis) us basis.source.numbers.now basis.source.table.now
+  pub stands : StandsAt (file basis) own
+  pub abis : fn.abis ≡ (from (file basis) own.at).abis
+  pub numbered : Numbered us basis.words.now
+  pub rows : UnitRows us basis.words.now basis.units.now
 
 abbrev pub use_at : List ℕ → Function → Step → Use
 use_at f fn s = use_of one (program one f) fn s
@@ -55,118 +64,93 @@ use_at f fn s = use_of one (program one f) fn s
 abbrev pub Fits : List ℕ → Use → Type 0
 Fits us s = Within us s.reads × Within us s.writes
 
--- The lengths of the buffers of a walk.
-abbrev pub Sized : List ℕ → List ℕ → List ℕ → Type 0
-Sized meets copies addressed = (length meets ≡ 2048) × (length copies ≡ 1024) × (length addressed ≡ 4)
-
--- The rows that the survey kept stay; those behind them may change.
-abbrev pub Kept : List ℕ → List ℕ → List ℕ → List ℕ → Type 0
-Kept reads writes reads' writes' = (j : ℕ) → j < 64 → (row reads' (j * 8) 8 ≡ row reads (j * 8) 8) × (row writes' (j * 8) 8 ≡ row writes (j * 8) 8)
-
--- The rows of step number i stand at b: they were kept, or they were asked again.
-pub record Found (f found table : List ℕ) (own here : Cursor) (i b : ℕ) (reads writes reads' writes' : List ℕ) : Type 0 where
-  pub room : b + 8 ≤ 520
-  pub kept : Kept reads writes reads' writes'
-  pub rows : (us : List ℕ) (fn : Function) → Ready f us found table → StandsAt f own → fn.abis ≡ (from f own.at).abis → StandsAt f here → IsStep f here.at
-      → RowsAt f us fn reads writes i (step_from f here.at ∷ [])
-      → (row reads' b 8 ≡ unit_row one us (use_at f fn (step_from f here.at)).reads) × (row writes' b 8 ≡ unit_row one us (use_at f fn (step_from f here.at)).writes)
-
 -- Step number i is noted, and the live row goes over it.
-pub record StepTaken (f found table : List ℕ) (own here : Cursor) (i : ℕ) (reads writes words units live meets copies addressed reads' writes' live' meets' copies' addressed' : List ℕ) : Type 0 where
-  pub kept : Kept reads writes reads' writes'
-  pub noted : (us : List ℕ) (fn : Function) (out : List ℕ) (ps : List Stop) → Told f us found table words units fn own → StandsAt f here → IsStep f here.at
-      → RowsAt f us fn reads writes i (step_from f here.at ∷ []) → Fits us (use_at f fn (step_from f here.at)) → Within us out → live ≡ unit_row one us out
-      → Noted us ps meets copies addressed
-      → Noted us ((use_at f fn (step_from f here.at), out) ∷ ps) meets' copies' addressed' × (live' ≡ unit_row one us (across (use_at f fn (step_from f here.at)) out))
-
--- The lengths of the two arrays in which the survey kept rows.
-abbrev pub Rowed : List ℕ → List ℕ → Type 0
-Rowed reads writes = (length reads ≡ 520) × (length writes ≡ 520)
+pub record StepTaken (basis : Basis) (site : Site) (i : ℕ) (steps : Steps) (live : List ℕ) (sketch : Sketch) (live' : List ℕ) (sketch' : Sketch) : Type 0 where
+  pub noted : (us : List ℕ) (fn : Function) (out : List ℕ) (ps : List Stop) → Told basis us fn site.own → StandsAt (file basis) site.here → IsStep (file basis) site.here.at
+      → RowsAt (file basis) us fn steps.reads steps.writes i (step_from (file basis) site.here.at ∷ []) → Fits us (use_at (file basis) fn (step_from (file basis) site.here.at)) → Within us out
+      → live ≡ unit_row one us out → Noted us ps sketch
+      → Noted us ((use_at (file basis) fn (step_from (file basis) site.here.at), out) ∷ ps) sketch'
+      × (live' ≡ unit_row one us (across (use_at (file basis) fn (step_from (file basis) site.here.at)) out))
 
 -- The steps whose places stand from entry i up to entry `last` are noted, the last first.
-pub record BlockTaken (f found table : List ℕ) (own : Cursor) (places counts words units : List ℕ) (last i : ℕ) (reads writes live meets copies addressed reads' writes' live' meets' copies' addressed' : List ℕ) : Type 0 where
-  pub live_len : length live' ≡ 8
-  pub sized : Sized meets' copies' addressed'
-  pub rowed : Rowed reads' writes'
-  pub kept : Kept reads writes reads' writes'
+pub record BlockTaken (basis : Basis) (own : Cursor) (steps : Steps) (last i : ℕ) (live : List ℕ) (sketch : Sketch) (live' : List ℕ) (sketch' : Sketch) : Type 0 where
   pub upto : i ≤ last
-  pub noted : (us : List ℕ) (fn : Function) (ss : List Step) (out : List ℕ) (ps : List Stop) → Told f us found table words units fn own
-      → BeginAt f places counts i ss → RowsAt f us fn reads writes i ss → last ≡ i + length ss → ((s : Step) → Memᴰ s ss → Fits us (use_at f fn s)) → Within us out
-      → live ≡ unit_row one us out → Noted us ps meets copies addressed
-      → Noted us (stops_in (map (use_at f fn) ss) out ++ ps) meets' copies' addressed' × (live' ≡ unit_row one us (before (map (use_at f fn) ss) out))
+  pub noted : (us : List ℕ) (fn : Function) (ss : List Step) (out : List ℕ) (ps : List Stop) → Told basis us fn own
+      → BeginAt (file basis) steps.places steps.counts i ss → RowsAt (file basis) us fn steps.reads steps.writes i ss → last ≡ i + length ss
+      → ((s : Step) → Memᴰ s ss → Fits us (use_at (file basis) fn s)) → Within us out → live ≡ unit_row one us out → Noted us ps sketch
+      → Noted us (stops_in (map (use_at (file basis) fn) ss) out ++ ps) sketch' × (live' ≡ unit_row one us (before (map (use_at (file basis) fn) ss) out))
 
 -- The entries from one up to another are steps that lie in the file.
 abbrev pub Safe : List ℕ → List ℕ → List ℕ → ℕ → ℕ → Type 0
 Safe f places counts first last = (i : ℕ) → first ≤ i → i < last → (7 * get_or counts i 0 ≤ get_or places i 0) × (get_or places i 0 + 4 ≤ length f)
 
 -- Block number b is noted: its steps come after those that were noted before.
-pub record OneTaken (f found table : List ℕ) (own : Cursor) (places counts firsts : List ℕ) (b : ℕ) (words units rows reads writes meets copies addressed reads' writes' meets' copies' addressed' : List ℕ) : Type 0 where
-  pub kept : Kept reads writes reads' writes'
-  pub noted : (us : List ℕ) (fn : Function) (ss : List Step) (out : List ℕ) (ps : List Stop) → Told f us found table words units fn own
-      → BeginAt f places counts (get_or firsts b 0) ss → RowsAt f us fn reads writes (get_or firsts b 0) ss → get_or firsts (b + 1) 0 ≡ get_or firsts b 0 + length ss
-      → ((s : Step) → Memᴰ s ss → Fits us (use_at f fn s)) → Within us out → row rows (1024 + b * 8) 8 ≡ unit_row one us out → Noted us ps meets copies addressed
-      → Noted us (ps ++ stops_in (map (use_at f fn) ss) out) meets' copies' addressed'
+pub record OneTaken (basis : Basis) (own : Cursor) (findings : Findings) (b : ℕ) (rows : List ℕ) (sketch sketch' : Sketch) : Type 0 where
+  pub noted : (us : List ℕ) (fn : Function) (ss : List Step) (out : List ℕ) (ps : List Stop) → Told basis us fn own
+      → BeginAt (file basis) findings.steps.places findings.steps.counts (get_or findings.firsts b 0) ss
+      → RowsAt (file basis) us fn findings.steps.reads findings.steps.writes (get_or findings.firsts b 0) ss → get_or findings.firsts (b + 1) 0 ≡ get_or findings.firsts b 0 + length ss
+      → ((s : Step) → Memᴰ s ss → Fits us (use_at (file basis) fn s)) → Within us out → row rows (1024 + b * 8) 8 ≡ unit_row one us out → Noted us ps sketch
+      → Noted us (ps ++ stops_in (map (use_at (file basis) fn) ss) out) sketch'
 
 -- The entries of each block are steps that lie in the file.
-abbrev pub Ordered : List ℕ → List ℕ → List ℕ → List ℕ → ℕ → Type 0
-Ordered f places counts firsts b =
-    (get_or firsts b 0 ≤ get_or firsts (b + 1) 0) × (get_or firsts (b + 1) 0 ≤ 4097) × Safe f places counts (get_or firsts b 0) (get_or firsts (b + 1) 0)
+abbrev pub Ordered : List ℕ → Findings → ℕ → Type 0
+Ordered f findings b =
+    (get_or findings.firsts b 0 ≤ get_or findings.firsts (b + 1) 0) × (get_or findings.firsts (b + 1) 0 ≤ 4097)
+    × Safe f findings.steps.places findings.steps.counts (get_or findings.firsts b 0) (get_or findings.firsts (b + 1) 0)
 
 -- Where the steps of a function's blocks begin, with the rows of those that are kept, and what is live at the end of each.
-pub record Begun (f us : List ℕ) (fn : Function) (reads writes places counts firsts rows : List ℕ) (count : ℕ) : Type 0 where
+pub record Begun (f us : List ℕ) (fn : Function) (findings : Findings) (rows : List ℕ) (count : ℕ) : Type 0 where
   pub member : Memᴰ fn (program one f).functions
   pub blocks : count ≡ length fn.blocks
-  pub steps : (k : ℕ) → k < count → BeginAt f places counts (get_or firsts k 0) (block_at fn k).steps
-  pub kept : (k : ℕ) → k < count → RowsAt f us fn reads writes (get_or firsts k 0) (block_at fn k).steps
-  pub ends : (k : ℕ) → k < count → get_or firsts (k + 1) 0 ≡ get_or firsts k 0 + length (block_at fn k).steps
+  pub steps : (k : ℕ) → k < count → BeginAt f findings.steps.places findings.steps.counts (get_or findings.firsts k 0) (block_at fn k).steps
+  pub kept : (k : ℕ) → k < count → RowsAt f us fn findings.steps.reads findings.steps.writes (get_or findings.firsts k 0) (block_at fn k).steps
+  pub ends : (k : ℕ) → k < count → get_or findings.firsts (k + 1) 0 ≡ get_or findings.firsts k 0 + length (block_at fn k).steps
   pub outs : (k : ℕ) → k < count → row rows (1024 + k * 8) 8 ≡ unit_row one us (get_or (settled_by (flows one (program one f) fn)).sets.outs k [])
 
 abbrev pub stops_upto : List ℕ → Function → ℕ → List Stop
 stops_upto f fn b = stops_from (take b (flows one (program one f) fn)) (settled_by (flows one (program one f) fn)).sets.outs
 
 -- The blocks below b are noted, in file order.
-pub record BlocksTaken (f found table : List ℕ) (own : Cursor) (places counts firsts : List ℕ) (count : ℕ) (words units rows : List ℕ) (b : ℕ) (reads writes meets copies addressed reads' writes' meets' copies' addressed' : List ℕ) : Type 0 where
-  pub sized : Sized meets' copies' addressed'
-  pub rowed : Rowed reads' writes'
-  pub kept : Kept reads writes reads' writes'
-  pub noted : (us : List ℕ) (fn : Function) (ps : List Stop) → Told f us found table words units fn own → Begun f us fn reads writes places counts firsts rows count
-      → Noted us ps meets copies addressed → Noted us (ps ++ stops_upto f fn b) meets' copies' addressed'
+pub record BlocksTaken (basis : Basis) (own : Cursor) (findings : Findings) (count : ℕ) (rows : List ℕ) (b : ℕ) (sketch sketch' : Sketch) : Type 0 where
+  pub noted : (us : List ℕ) (fn : Function) (ps : List Stop) → Told basis us fn own → Begun (file basis) us fn findings rows count
+      → Noted us ps sketch → Noted us (ps ++ stops_upto (file basis) fn b) sketch'
 
 -- A function of an accepted file, whose records begin at a cursor.
-pub record Owner (f found table : List ℕ) (own : Cursor) : Type 0 where
+pub record Owner (basis : Basis) (own : Cursor) : Type 0 where
   pub us : List ℕ
   pub fn : Function
-  pub ready : Ready f us found table
-  pub stands : StandsAt f own
-  pub member : Memᴰ fn (program one f).functions
-  pub abis : fn.abis ≡ (from f own.at).abis
-  pub blocks : fn.blocks ≡ (from f own.at).blocks
+  pub ready : Ready (file basis) us basis.source.numbers.now basis.source.table.now
+  pub stands : StandsAt (file basis) own
+  pub member : Memᴰ fn (program one (file basis)).functions
+  pub abis : fn.abis ≡ (from (file basis) own.at).abis
+  pub blocks : fn.blocks ≡ (from (file basis) own.at).blocks
 
 -- What follows a function's records: the next function, or the end.
 abbrev pub Follows : List ℕ → ℕ → Cursor → Type 0
 Follows f at after = StandsAt f after × ((from f after.at).functions ≡ (from f at).functions) × ((FunctionHere f after.at → ⊥) → (from f after.at).functions ≡ [])
 
--- The lengths of the survey's arrays, which hold anything at first.
-abbrev pub Lent : List ℕ → List ℕ → List ℕ → List ℕ → List ℕ → List ℕ → List ℕ → List ℕ → List ℕ → Type 0
-Lent gens kills targets starts reads writes places counts firsts =
-    (length gens ≡ 1024) × (length kills ≡ 1024) × (length targets ≡ 5462) × (length starts ≡ 129) × (length reads ≡ 520) × (length writes ≡ 520) × (length places ≡ 4097) × (length counts ≡ 4097) × (length firsts ≡ 129)
-
 -- One function is noted.
-pub record FunctionTaken (f found table : List ℕ) (own : Cursor) (words units meets copies addressed rows' meets' copies' addressed' : List ℕ) (passes blocks : ℕ) (after : Cursor) : Type 0 where
+pub record FunctionTaken (basis : Basis) (own : Cursor) (sketch : Sketch) (rows' : List ℕ) (sketch' : Sketch) (passes blocks : ℕ) (after : Cursor) : Type 0 where
   pub few : passes ≤ 130
   pub fewer : blocks ≤ 128
   pub held : Held rows' blocks
   pub sound : Sound after
-  pub noted : (us : List ℕ) (fn : Function) (ps : List Stop) → Told f us found table words units fn own → Memᴰ fn (program one f).functions
-      → fn.blocks ≡ (from f own.at).blocks → Noted us ps meets copies addressed
-      → Noted us (ps ++ stops_of (flows one (program one f) fn)) meets' copies' addressed' × (passes ≡ (liveness one (program one f) fn).passes)
-      × (rows' ≡ live_words one us (liveness one (program one f) fn).sets) × Follows f own.at after
+  pub noted : (us : List ℕ) (fn : Function) (ps : List Stop) → Told basis us fn own → Memᴰ fn (program one (file basis)).functions
+      → fn.blocks ≡ (from (file basis) own.at).blocks → Noted us ps sketch
+      → Noted us (ps ++ stops_of (flows one (program one (file basis)) fn)) sketch' × (passes ≡ (liveness one (program one (file basis)) fn).passes)
+      × (rows' ≡ live_words one us (liveness one (program one (file basis)) fn).sets) × Follows (file basis) own.at after
 
 -- An accepted file, its units, their words and the rows of each storage's units.
-pub record Granted (f us found table words units : List ℕ) : Type 0 where
-  pub ready : Ready f us found table
-  pub numbered : Numbered us words
-  pub rows : UnitRows us words units
+pub record Granted (basis : Basis) (us : List ℕ) : Type 0 where
+  pub ready : Ready (file basis) us basis.source.numbers.now basis.source.table.now
+  pub numbered : Numbered us basis.words.now
+  pub rows : UnitRows us basis.words.now basis.units.now
+
+-- Nothing is noted yet.
+pub record Fresh (sketch : Sketch) : Type 0 where
+  pub meets : sketch.meets ≡ blank 2048
+  pub copies : sketch.copies ≡ blank 1024
+  pub addressed : sketch.addressed ≡ blank 4
 
 -- Whether a function record stands there.
 pub record FunctionNext (f : List ℕ) (at : ℕ) (there : Bool) : Type 0 where
@@ -180,19 +164,19 @@ abbrev pub passes_by : List ℕ → List Function → ℕ
 passes_by f fs = sum (map (λ fn. (liveness one (program one f) fn).passes) fs)
 
 -- The functions before a cursor are noted, in file order, and the words are those of the last of them.
-pub record Walked (f us : List ℕ) (c : Cursor) (passes : ℕ) (rows meets copies addressed : List ℕ) : Type 0 where
+pub record Walked (f us : List ℕ) (c : Cursor) (passes : ℕ) (rows : List ℕ) (sketch : Sketch) : Type 0 where
   pub done : List Function
   pub splits : (program one f).functions ≡ done ++ (from f c.at).functions
   pub stands : StandsAt f c
   pub last : (FunctionHere f c.at → ⊥) → (from f c.at).functions ≡ []
-  pub noted : Noted us (stops_by f done) meets copies addressed
+  pub noted : Noted us (stops_by f done) sketch
   pub sums : passes ≡ passes_by f done
   pub few : passes ≤ 130 * length done
   pub live : rows ≡ last_live one us (program one f) done
 
 -- All functions are noted.
-pub record AllTaken (f us : List ℕ) (passes : ℕ) (rows meets copies addressed : List ℕ) : Type 0 where
-  pub noted : Noted us (stops one (program one f)) meets copies addressed
+pub record AllTaken (f us : List ℕ) (passes : ℕ) (rows : List ℕ) (sketch : Sketch) : Type 0 where
+  pub noted : Noted us (stops one (program one f)) sketch
   pub sums : passes ≡ passes_of one (program one f)
   pub live : rows ≡ last_live one us (program one f) (program one f).functions
 

@@ -2,12 +2,15 @@
 // Knows live sets and what each step reads and writes; gives which storages must not share a place, and which were copied into one another.
 #![tactic(auto)]
 
+mod basis;
+mod sketch;
 mod walk;
 
 ghost use Rattle.std.specs.Prelude.{◌≡◌, length};
 ghost use Rattle.graph.specs.Graphs.{GraphsIn, Graphs};
 
 use records::{Refusal, number_units};
+use units::numbered::Numbered;
 
 // The graph of a file that is not checked yet, in just the needed words.
 fn graph_in(
@@ -26,7 +29,12 @@ fn graph_in(
     let mut numbers = [0u16; 2341];
     let mut table = [0u16; 512];
     let n = number_units(file, units, &mut numbers, &mut table)?;
-    Ok(walk::graph_of(file, &numbers, &table, units, n, live, graph, copies))
+    let source = Numbered {
+        file,
+        numbers: &numbers,
+        table: &table,
+    };
+    Ok(walk::graph_of(source, units, n, live, graph, copies))
 }
 
 // Which storages interfere, both ways, and which were copied into one another, in the smaller id's row; with the passes of all functions. `units` then

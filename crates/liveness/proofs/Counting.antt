@@ -24,6 +24,8 @@ use Rattle.liveness.specs.Flow.{Flow, last_targets, flow_of, flows, block_ids, n
 use Rattle.liveness.specs.Settle.{flow_at}
 use Rattle.liveness.specs.Survey.{read_first, written, block_at, Surveyed}
 use Rattle.liveness.specs.Walks.{Kept, KeptRows, BlockHere, Stopped, Sought, BlockRead, BlockDone, Tallied, Counted}
+use Rattle.liveness.specs.declared.survey.Steps.{Steps}
+use Rattle.liveness.specs.declared.survey.Findings.{Findings}
 use Rattle.liveness.specs.declared.survey.Walk.{Walk}
 use Rattle.units.proofs.Standing.{stands_on}
 use Rattle.liveness.proofs.Onward.{from_block}
@@ -80,8 +82,8 @@ module _ (starts firsts : List ℕ) (b : ℕ) (w : Walk) (t : Tallied starts fir
 
 -- One block more -------------------------------------------------------------------------------------------------------------------------------
 
-module _ (f us : List ℕ) (fn : Function) (own : ℕ) (gens kills targets starts reads writes places counts firsts ids : List ℕ) (b : ℕ) (w : Walk)
-    (g : Counted f us fn own gens kills targets starts reads writes places counts firsts ids b w) (here : BlockHere f w.at) where
+module _ (f us : List ℕ) (fn : Function) (own : ℕ) (findings : Findings) (ids : List ℕ) (b : ℕ) (w : Walk)
+    (g : Counted f us fn own findings ids b w) (here : BlockHere f w.at) where
   record Next : Type 0 where
     pub low : b < length fn.blocks
     pub is : block_at fn b ≡ block_of (u16_at (drop w.at f) 1) (from f (w.at + 3))
@@ -103,23 +105,27 @@ module _ (f us : List ℕ) (fn : Function) (own : ℕ) (gens kills targets start
   pub block_steps : ((k : ℕ) → k < length fn.blocks → (block_at fn k).steps ≡ [] → ⊥) → (from f (w.at + 3)).steps ≡ [] → ⊥
   block_steps full e = let n = next_block in full b n.low (ap (λ (x : Block). x.steps) n.is ∙ e)
 
-  module _ (born dead targets' reads' writes' places' counts' : List ℕ) (end : Walk)
-      (read : BlockRead f us fn (w.at + 3) w.steps w.targets born dead targets' reads' writes' places' counts' end)
-      (t : Tallied starts firsts b w) (few : b < 128)
-      (lg : length gens ≡ 1024) (lk : length kills ≡ 1024) (lt : length targets ≡ 5462) (lt' : length targets' ≡ 5462) (ls : length starts ≡ 129) (lf : length firsts ≡ 129) (li : length ids ≡ 128)
+  module _ (born dead : List ℕ) (notes' : Steps) (end : Walk)
+      (read : BlockRead f us fn (w.at + 3) w.steps w.targets born dead notes' end)
+      (t : Tallied findings.starts findings.firsts b w) (few : b < 128)
+      (lg : length findings.gens ≡ 1024) (lk : length findings.kills ≡ 1024) (lt : length findings.steps.targets ≡ 5462) (lt' : length notes'.targets ≡ 5462) (ls : length findings.starts ≡ 129) (lf : length findings.firsts ≡ 129) (li : length ids ≡ 128)
       (lb : length born ≡ 8) (ld : length dead ≡ 8) (more_targets : w.targets ≤ end.targets) (more_steps : w.steps ≤ end.steps) (room : end.targets ≤ 5462)
-      (kt : Kept w.targets targets targets') (kr : KeptRows w.steps reads reads') (kw : KeptRows w.steps writes writes') (kp : Kept w.steps places places') (kc : Kept w.steps counts counts') where
+      (kt : Kept w.targets findings.steps.targets notes'.targets) (kr : KeptRows w.steps findings.steps.reads notes'.reads) (kw : KeptRows w.steps findings.steps.writes notes'.writes) (kp : Kept w.steps findings.steps.places notes'.places) (kc : Kept w.steps findings.steps.counts notes'.counts) where
     abbrev gens' : List ℕ
-    gens' = put gens (b * width) (row born 0 width)
+    gens' = put findings.gens (b * width) (row born 0 width)
 
     abbrev kills' : List ℕ
-    kills' = put kills (b * width) (row dead 0 width)
+    kills' = put findings.kills (b * width) (row dead 0 width)
 
     abbrev starts' : List ℕ
-    starts' = set starts (b + 1) end.targets
+    starts' = set findings.starts (b + 1) end.targets
 
     abbrev firsts' : List ℕ
-    firsts' = set firsts (b + 1) end.steps
+    firsts' = set findings.firsts (b + 1) end.steps
+
+    -- what is noted once the block is read
+    abbrev findings' : Findings
+    findings' = record { gens = gens'; kills = kills'; starts = starts'; firsts = firsts'; steps = notes' }
 
     fits : (l r : List ℕ) → length l ≡ 1024 → length r ≡ 8 → b * width + length (row r 0 width) ≤ length l
     fits l r p q = omega (arith, ap length (row_whole r 8 (omega arith)))
@@ -140,47 +146,47 @@ module _ (f us : List ℕ) (fn : Function) (own : ℕ) (gens kills targets start
       abbrev ids' : List ℕ
       ids' = set ids b v
 
-      old_done : (j : ℕ) → j < b → BlockDone f us fn gens' kills' targets' starts' reads' writes' places' counts' firsts' ids' j (block_at fn j)
+      old_done : (j : ℕ) → j < b → BlockDone f us fn findings' ids' j (block_at fn j)
       unfolding targets_of
       old_done j h =
           let d = g.done j h in
-          let a = old_start starts firsts b w t few ls lf end.targets end.steps j (omega arith) in
-          let c = old_start starts firsts b w t few ls lf end.targets end.steps (j + 1) (omega arith) in
-          let p = old_first starts firsts b w t few ls lf end.targets end.steps j (omega arith) in
-          let q = old_first starts firsts b w t few ls lf end.targets end.steps (j + 1) (omega arith) in
+          let a = old_start findings.starts findings.firsts b w t few ls lf end.targets end.steps j (omega arith) in
+          let c = old_start findings.starts findings.firsts b w t few ls lf end.targets end.steps (j + 1) (omega arith) in
+          let p = old_first findings.starts findings.firsts b w t few ls lf end.targets end.steps j (omega arith) in
+          let q = old_first findings.starts findings.firsts b w t few ls lf end.targets end.steps (j + 1) (omega arith) in
           let most = t.starts_low (j + 1) (omega arith) in
           let far = t.firsts_low (j + 1) (omega arith) in
           record {
-            reading = other_row gens born lg lb j h ∙ d.reading;
-            writing = other_row kills dead lk ld j h ∙ d.writing;
+            reading = other_row findings.gens born lg lb j h ∙ d.reading;
+            writing = other_row findings.kills dead lk ld j h ∙ d.writing;
             going =
-                ap₂ (λ (x y : ℕ). part targets' x y) a c
-                ∙ (part_kept targets targets' (get_or starts j 0) (get_or starts (j + 1) 0) w.targets (lt' ∙ sym lt) most (omega arith) kt ∙ d.going);
-            steps = rw p (begin_kept f places counts places' counts' (get_or firsts j 0) w.steps (block_at fn j).steps (omega (arith, d.ends)) kp kc d.steps);
-            rows = rw p (rows_kept f us fn reads writes reads' writes' (get_or firsts j 0) w.steps (block_at fn j).steps (omega (arith, d.ends)) kr kw d.rows);
+                ap₂ (λ (x y : ℕ). part notes'.targets x y) a c
+                ∙ (part_kept findings.steps.targets notes'.targets (get_or findings.starts j 0) (get_or findings.starts (j + 1) 0) w.targets (lt' ∙ sym lt) most (omega arith) kt ∙ d.going);
+            steps = rw p (begin_kept f findings.steps.places findings.steps.counts notes'.places notes'.counts (get_or findings.firsts j 0) w.steps (block_at fn j).steps (omega (arith, d.ends)) kp kc d.steps);
+            rows = rw p (rows_kept f us fn findings.steps.reads findings.steps.writes notes'.reads notes'.writes (get_or findings.firsts j 0) w.steps (block_at fn j).steps (omega (arith, d.ends)) kr kw d.rows);
             ends = q ∙ (d.ends ∙ ap (λ (x : ℕ). x + length (block_at fn j).steps) (sym p));
             id = get_or-set_other ids b j v 0 (λ e. absurd (omega arith)) ∙ d.id;
           }
 
-      new_done : BlockDone f us fn gens' kills' targets' starts' reads' writes' places' counts' firsts' ids' b (block_at fn b)
+      new_done : BlockDone f us fn findings' ids' b (block_at fn b)
       unfolding targets_of
       new_done =
           let n = next_block in
-          let a : get_or starts' b 0 ≡ w.targets = old_start starts firsts b w t few ls lf end.targets end.steps b (omega arith) ∙ t.start in
-          let p : get_or firsts' b 0 ≡ w.steps = old_first starts firsts b w t few ls lf end.targets end.steps b (omega arith) ∙ t.first in
+          let a : get_or starts' b 0 ≡ w.targets = old_start findings.starts findings.firsts b w t few ls lf end.targets end.steps b (omega arith) ∙ t.start in
+          let p : get_or firsts' b 0 ≡ w.steps = old_first findings.starts findings.firsts b w t few ls lf end.targets end.steps b (omega arith) ∙ t.first in
           rw n.is
           (record {
-            reading = same_row_lem gens born lg lb ∙ read.reading;
-            writing = same_row_lem kills dead lk ld ∙ read.writing;
-            going = ap₂ (λ (x y : ℕ). part targets' x y) a (new_start starts firsts b w t few ls lf end.targets end.steps) ∙ read.going;
+            reading = same_row_lem findings.gens born lg lb ∙ read.reading;
+            writing = same_row_lem findings.kills dead lk ld ∙ read.writing;
+            going = ap₂ (λ (x y : ℕ). part notes'.targets x y) a (new_start findings.starts findings.firsts b w t few ls lf end.targets end.steps) ∙ read.going;
             steps = rw p read.begun;
             rows = rw p read.rows;
-            ends = new_first starts firsts b w t few ls lf end.targets end.steps ∙ (read.many ∙ ap (λ (x : ℕ). x + length (from f (w.at + 3)).steps) (sym p));
+            ends = new_first findings.starts findings.firsts b w t few ls lf end.targets end.steps ∙ (read.many ∙ ap (λ (x : ℕ). x + length (from f (w.at + 3)).steps) (sym p));
             id = get_or-set_same ids b v 0 (omega arith) ∙ (id_is ∙ target_id f w.at);
           })
 
       pub counted_on : (at k : ℕ) → Stands f at k → Sought f true end.at at → Stopped f true at
-          → Counted f us fn own gens' kills' targets' starts' reads' writes' places' counts' firsts' ids' (b + 1) (record { at = at; k = k; steps = end.steps; targets = end.targets })
+          → Counted f us fn own findings' ids' (b + 1) (record { at = at; k = k; steps = end.steps; targets = end.targets })
       unfolding put_rec
       counted_on at k st so sp =
           let n = next_block in
@@ -193,7 +199,7 @@ module _ (f us : List ℕ) (fn : Function) (own : ℕ) (gens kills targets start
             done = λ j h. all j h (lt_or_ge j b);
           }
         where
-          all : (j : ℕ) → j < b + 1 → (j < b) ⊎ (b ≤ j) → BlockDone f us fn gens' kills' targets' starts' reads' writes' places' counts' firsts' ids' j (block_at fn j)
+          all : (j : ℕ) → j < b + 1 → (j < b) ⊎ (b ≤ j) → BlockDone f us fn findings' ids' j (block_at fn j)
           all j h (inl l) = old_done j l
           all j h (inr l) = let e : j ≡ b = omega arith in rw e new_done
 
@@ -208,10 +214,10 @@ tallied_start starts firsts at k p q =
       firsts_low = λ j h. let e : j ≡ 0 = omega arith in rw e (omega arith);
     }
 
-pub counted_start : (f us : List ℕ) (fn : Function) (own : ℕ) (gens kills targets starts reads writes places counts firsts ids : List ℕ) (at k : ℕ) → fn.blocks ≡ (from f own).blocks
+pub counted_start : (f us : List ℕ) (fn : Function) (own : ℕ) (findings : Findings) (ids : List ℕ) (at k : ℕ) → fn.blocks ≡ (from f own).blocks
     → Stands f at k → Sought f true own at → Stopped f true at
-    → Counted f us fn own gens kills targets starts reads writes places counts firsts ids 0 (record { at = at; k = k; steps = 0; targets = 0 })
-counted_start f us fn own gens kills targets starts reads writes places counts firsts ids at k e st so sp =
+    → Counted f us fn own findings ids 0 (record { at = at; k = k; steps = 0; targets = 0 })
+counted_start f us fn own findings ids at k e st so sp =
     record {
       few = omega arith;
       left = e ∙ sym (so.block refl);
@@ -228,8 +234,8 @@ flow_at_lem f fn k h = get_d_map (flow_of one (program one f) fn) fn.blocks k (r
 drop_none : (l : List Block) (n : ℕ) → drop n l ≡ [] → n ≤ length l → n ≡ length l
 drop_none l n e h = omega (arith, ap length e, length-drop n l)
 
-module _ (f us : List ℕ) (fn : Function) (own : ℕ) (gens kills targets starts reads writes places counts firsts ids : List ℕ) (b : ℕ) (w : Walk)
-    (g : Counted f us fn own gens kills targets starts reads writes places counts firsts ids b w) (most : length fn.blocks ≤ 128) (stop : (128 ≤ b) ⊎ (BlockHere f w.at → ⊥)) where
+module _ (f us : List ℕ) (fn : Function) (own : ℕ) (findings : Findings) (ids : List ℕ) (b : ℕ) (w : Walk)
+    (g : Counted f us fn own findings ids b w) (most : length fn.blocks ≤ 128) (stop : (128 ≤ b) ⊎ (BlockHere f w.at → ⊥)) where
   pub all_blocks : b ≡ length fn.blocks
   all_blocks = go stop
     where
@@ -246,10 +252,10 @@ module _ (f us : List ℕ) (fn : Function) (own : ℕ) (gens kills targets start
       let k : i < b = omega arith in
       get_or-take b ids i 0 k ∙ ((g.done i k).id ∙ sym (get_d_map (λ (x : Block). x.id) fn.blocks i (record { id = 0; steps = [] }) 0 (omega arith))))
 
-  pub surveyed_all : (targets' : List ℕ) → Tallied starts firsts b w → w.targets ≤ 5462 → w.steps ≤ 4097 → length gens ≡ 1024 → length kills ≡ 1024
-      → length targets ≡ 5462 → length targets' ≡ 5462 → length starts ≡ 129 → length places ≡ 4097 → length ids ≡ 128
-      → ((i : ℕ) → i < w.targets → get_or targets' i 0 ≡ number_in (get_or targets i 0) (take b ids))
-      → Surveyed f us fn gens kills targets' starts reads writes places counts firsts b
+  pub surveyed_all : (targets' : List ℕ) → Tallied findings.starts findings.firsts b w → w.targets ≤ 5462 → w.steps ≤ 4097 → length findings.gens ≡ 1024 → length findings.kills ≡ 1024
+      → length findings.steps.targets ≡ 5462 → length targets' ≡ 5462 → length findings.starts ≡ 129 → length findings.steps.places ≡ 4097 → length ids ≡ 128
+      → ((i : ℕ) → i < w.targets → get_or targets' i 0 ≡ number_in (get_or findings.steps.targets i 0) (take b ids))
+      → Surveyed f us fn (record findings { steps = record findings.steps { targets = targets' } }) b
   unfolding targets_of flow_of
   surveyed_all targets' t mt ms lg lk lt lt' ls lp li numbered =
       record {
@@ -274,8 +280,8 @@ module _ (f us : List ℕ) (fn : Function) (own : ℕ) (gens kills targets start
       flow : (k : ℕ) → k < b → flow_at (flows one (program one f) fn) k ≡ flow_of one (program one f) fn (block_at fn k)
       flow k h = flow_at_lem f fn k (omega (arith, all_blocks))
 
-      goes : (k : ℕ) → k < b → part targets' (get_or starts k 0) (get_or starts (k + 1) 0) ≡ map (λ x. number_in x (block_ids fn)) (last_targets [] (block_at fn k).steps)
+      goes : (k : ℕ) → k < b → part targets' (get_or findings.starts k 0) (get_or findings.starts (k + 1) 0) ≡ map (λ x. number_in x (block_ids fn)) (last_targets [] (block_at fn k).steps)
       goes k h =
           let far = t.starts_low (k + 1) (omega arith) in
-          part_map (λ x. number_in x (take b ids)) targets targets' (get_or starts k 0) (get_or starts (k + 1) 0) w.targets (lt' ∙ sym lt) far (omega arith) numbered
+          part_map (λ x. number_in x (take b ids)) findings.steps.targets targets' (get_or findings.starts k 0) (get_or findings.starts (k + 1) 0) w.targets (lt' ∙ sym lt) far (omega arith) numbered
           ∙ ap₂ (λ (l : List ℕ) (ts : List ℕ). map (λ x. number_in x l) ts) (ids_are li) (g.done k h).going

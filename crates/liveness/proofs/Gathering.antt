@@ -24,6 +24,7 @@ use Rattle.liveness.specs.Flow.{Use, use_of, last_targets}
 use Rattle.liveness.specs.Survey.{read_first, written, BeginAt, RowsAt}
 use Rattle.liveness.specs.Walks.{Kept, KeptRows, Inner, Outer, Same, Asked, uses_of, InBlock, BlockRead}
 use Rattle.units.specs.declared.cursor.Cursor.{Cursor}
+use Rattle.liveness.specs.declared.survey.Steps.{Steps}
 use Rattle.liveness.specs.declared.survey.Walk.{Walk}
 use Rattle.liveness.proofs.SetLaws.{has_nil, has_append, has_less}
 use Rattle.liveness.proofs.Rows.{row_length, row_same, row_or, row_less}
@@ -182,10 +183,10 @@ target_id f at =
 
 -- The walk inside a block ----------------------------------------------------------------------------------------------------------------------
 
-pub in_start : (f us : List ℕ) (fn : Function) (targets reads writes places counts : List ℕ) (w : Walk) → Stands f w.at w.k → ((from f w.at).steps ≡ [] → ⊥)
-    → InBlock f us fn w.at w.steps w.targets (replicate 8 0) (replicate 8 0) targets reads writes places counts w
+pub in_start : (f us : List ℕ) (fn : Function) (notes : Steps) (w : Walk) → Stands f w.at w.k → ((from f w.at).steps ≡ [] → ⊥)
+    → InBlock f us fn w.at w.steps w.targets (replicate 8 0) (replicate 8 0) notes w
 unfolding read_first written
-in_start f us fn targets reads writes places counts w s n =
+in_start f us fn notes w s n =
     record {
       done = [];
       splits = refl;
@@ -200,18 +201,18 @@ in_start f us fn targets reads writes places counts w s n =
       functions = refl;
     }
 
-module _ (f us : List ℕ) (fn : Function) (start s t : ℕ) (born dead targets reads writes places counts : List ℕ) (w : Walk) (g : InBlock f us fn start s t born dead targets reads writes places counts w) where
+module _ (f us : List ℕ) (fn : Function) (start s t : ℕ) (born dead : List ℕ) (notes : Steps) (w : Walk) (g : InBlock f us fn start s t born dead notes w) where
   module _ (ok : check one f ≡ units us) where
-    pub in_target : (v : ℕ) → Inner f w.at 8 → t ≤ w.targets → w.targets < length targets → v ≡ u16_at f (w.at + 1)
-        → InBlock f us fn start s t born dead (set targets w.targets v) reads writes places counts (record { at = w.at + 3; k = w.k; steps = w.steps; targets = w.targets + 1 })
+    pub in_target : (v : ℕ) → Inner f w.at 8 → t ≤ w.targets → w.targets < length notes.targets → v ≡ u16_at f (w.at + 1)
+        → InBlock f us fn start s t born dead (record notes { targets = set notes.targets w.targets v }) (record { at = w.at + 3; k = w.k; steps = w.steps; targets = w.targets + 1 })
     unfolding put_rec
     in_target v h l m e =
         let r = from_target f w.at h in
         let steps : (from f w.at).steps ≡ (from f (w.at + 3)).steps = ap (λ (x : Rest). x.steps) r.1 in
         let ts : (from f w.at).targets ≡ v ∷ (from f (w.at + 3)).targets = ap (λ (x : Rest). x.targets) r.1 ∙ ap (λ (i : ℕ). i ∷ (from f (w.at + 3)).targets) (sym (e ∙ target_id f w.at)) in
-        let same : part targets t w.targets ++ (from f w.at).targets ≡ part (set targets w.targets v) t (w.targets + 1) ++ (from f (w.at + 3)).targets =
-        ap (λ (x : List ℕ). part targets t w.targets ++ x) ts
-        ∙ (sym (append_assoc (part targets t w.targets) (v ∷ []) (from f (w.at + 3)).targets) ∙ ap (λ (x : List ℕ). x ++ (from f (w.at + 3)).targets) (sym (part_more targets t w.targets v l m))) in
+        let same : part notes.targets t w.targets ++ (from f w.at).targets ≡ part (set notes.targets w.targets v) t (w.targets + 1) ++ (from f (w.at + 3)).targets =
+        ap (λ (x : List ℕ). part notes.targets t w.targets ++ x) ts
+        ∙ (sym (append_assoc (part notes.targets t w.targets) (v ∷ []) (from f (w.at + 3)).targets) ∙ ap (λ (x : List ℕ). x ++ (from f (w.at + 3)).targets) (sym (part_more notes.targets t w.targets v l m))) in
         let k : w.k + 0 ≡ w.k = omega arith in
         record {
           done = g.done;
@@ -227,7 +228,7 @@ module _ (f us : List ℕ) (fn : Function) (start s t : ℕ) (born dead targets 
           functions = sym (ap (λ (x : Rest). x.functions) r.1) ∙ g.functions;
         }
 
-    pub in_operand : Inner f w.at 6 → InBlock f us fn start s t born dead targets reads writes places counts (record { at = w.at + 7; k = w.k + 1; steps = w.steps; targets = w.targets })
+    pub in_operand : Inner f w.at 6 → InBlock f us fn start s t born dead notes (record { at = w.at + 7; k = w.k + 1; steps = w.steps; targets = w.targets })
     unfolding put_rec
     in_operand h =
         let r = from_operand f w.at h in
@@ -242,17 +243,17 @@ module _ (f us : List ℕ) (fn : Function) (start s t : ℕ) (born dead targets 
           rows = g.rows;
           reading = g.reading;
           writing = g.writing;
-          going = g.going ∙ ap₂ (λ (x : List ℕ) (y : List Step). last_targets (part targets t w.targets ++ x) y) ts steps;
+          going = g.going ∙ ap₂ (λ (x : List ℕ) (y : List Step). last_targets (part notes.targets t w.targets ++ x) y) ts steps;
           blocks = sym (ap (λ (x : Rest). x.blocks) r.1) ∙ g.blocks;
           functions = sym (ap (λ (x : Rest). x.functions) r.1) ∙ g.functions;
         }
 
   -- a step, with the place behind its operands
   pub in_step : (born' dead' reads' writes' : List ℕ) (at k : ℕ) → IsStep f w.at → w.at + 4 ≤ length f → 7 * w.k ≤ w.at → from f w.at ≡ put_step (step_from f w.at) (from f (w.at + 4))
-      → w.steps < length places → w.steps < length counts → KeptRows w.steps reads reads' → KeptRows w.steps writes writes' → RowsOf f us fn reads' writes' w.steps (step_from f w.at)
+      → w.steps < length notes.places → w.steps < length notes.counts → KeptRows w.steps notes.reads reads' → KeptRows w.steps notes.writes writes' → RowsOf f us fn reads' writes' w.steps (step_from f w.at)
       → born' ≡ unit_row one us (read_first (uses_of f fn (g.done ++ (step_from f w.at ∷ [])))) → dead' ≡ unit_row one us (written (uses_of f fn (g.done ++ (step_from f w.at ∷ []))))
       → Stands f at k → Same f (w.at + 4) at
-      → InBlock f us fn start s t born' dead' targets reads' writes' (set places w.steps w.at) (set counts w.steps w.k) (record { at = at; k = k; steps = w.steps + 1; targets = t })
+      → InBlock f us fn start s t born' dead' (record notes { reads = reads'; writes = writes'; places = set notes.places w.steps w.at; counts = set notes.counts w.steps w.k }) (record { at = at; k = k; steps = w.steps + 1; targets = t })
   unfolding put_step last_targets part
   in_step born' dead' reads' writes' at k is fits low e lp lc kr kw own br dr st same =
       let x = step_from f w.at in
@@ -264,18 +265,18 @@ module _ (f us : List ℕ) (fn : Function) (start s t : ℕ) (born dead targets 
         stands = st;
         many = omega (arith, g.many, length-append g.done (x ∷ []));
         begun =
-            begin_more f (set places w.steps w.at) (set counts w.steps w.k) s w.steps g.done x g.many
-            (begin_kept f places counts _ _ s w.steps g.done (omega (arith, g.many)) (kept_set places w.steps w.at) (kept_set counts w.steps w.k) g.begun)
-            (rw (get_or-set_same places w.steps w.at 0 lp, get_or-set_same counts w.steps w.k 0 lc) (g.stands, is, refl, low, fits));
-        rows = rows_more f us fn reads' writes' s w.steps g.done x g.many (rows_kept f us fn reads writes reads' writes' s w.steps g.done (omega (arith, g.many)) kr kw g.rows) own;
+            begin_more f (set notes.places w.steps w.at) (set notes.counts w.steps w.k) s w.steps g.done x g.many
+            (begin_kept f notes.places notes.counts _ _ s w.steps g.done (omega (arith, g.many)) (kept_set notes.places w.steps w.at) (kept_set notes.counts w.steps w.k) g.begun)
+            (rw (get_or-set_same notes.places w.steps w.at 0 lp, get_or-set_same notes.counts w.steps w.k 0 lc) (g.stands, is, refl, low, fits));
+        rows = rows_more f us fn reads' writes' s w.steps g.done x g.many (rows_kept f us fn notes.reads notes.writes reads' writes' s w.steps g.done (omega (arith, g.many)) kr kw g.rows) own;
         reading = br;
         writing = dr;
-        going = g.going ∙ (ap (last_targets _) steps ∙ ap₂ (λ (n : ℕ) (l : List ℕ). last_targets (take n (drop t targets) ++ l) (from f at).steps) (sym none) (sym same.targets));
+        going = g.going ∙ (ap (last_targets _) steps ∙ ap₂ (λ (n : ℕ) (l : List ℕ). last_targets (take n (drop t notes.targets) ++ l) (from f at).steps) (sym none) (sym same.targets));
         blocks = same.blocks ∙ (sym (ap (λ (r : Rest). r.blocks) e) ∙ g.blocks);
         functions = same.functions ∙ (sym (ap (λ (r : Rest). r.functions) e) ∙ g.functions);
       }
 
-  pub in_done : Outer f w.at → BlockRead f us fn start s t born dead targets reads writes places counts w
+  pub in_done : Outer f w.at → BlockRead f us fn start s t born dead notes w
   unfolding last_targets
   in_done o =
       let all : g.done ≡ (from f start).steps = sym (g.splits ∙ (ap (λ (l : List Step). g.done ++ l) o.0 ∙ append-nil g.done)) in
@@ -286,7 +287,7 @@ module _ (f us : List ℕ) (fn : Function) (start s t : ℕ) (born dead targets 
         rows = rw all at g.rows;
         reading = g.reading ∙ ap (λ (l : List Step). unit_row one us (read_first (uses_of f fn l))) all;
         writing = g.writing ∙ ap (λ (l : List Step). unit_row one us (written (uses_of f fn l))) all;
-        going = sym (g.going ∙ (ap₂ (λ (a : List ℕ) (b : List Step). last_targets (part targets t w.targets ++ a) b) o.1 o.0 ∙ append-nil (part targets t w.targets)));
+        going = sym (g.going ∙ (ap₂ (λ (a : List ℕ) (b : List Step). last_targets (part notes.targets t w.targets ++ a) b) o.1 o.0 ∙ append-nil (part notes.targets t w.targets)));
         blocks = g.blocks;
         functions = g.functions;
       }

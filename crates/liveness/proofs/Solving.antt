@@ -30,6 +30,7 @@ use Rattle.passes.proofs.Transfer as M
 use Rattle.passes.proofs.Squash.{one_step, squash}
 use Rattle.liveness.specs.Flow.{Use, Flow, no_flow, flows}
 use Rattle.liveness.specs.Settle.{Sets, step_view, view, views, flow_at, settled_by, liveness}
+use Rattle.liveness.specs.declared.survey.Findings.{Findings}
 use Rattle.liveness.specs.Survey.{read_first, written, Surveyed}
 use Rattle.liveness.specs.Lives.{rows_from, live_words}
 use Rattle.liveness.proofs.SetLaws.{has_nil, has_append, has_less, mem_at}
@@ -125,7 +126,7 @@ map_twice : (fs : List Flow) (us : List ℕ) → squash (views (numbered us fs))
 map_twice [] us = refl
 map_twice (x ∷ fs) us = ap (λ (l : List L.Block). one_step (view (number_flow us x)) ∷ l) (map_twice fs us)
 
-module _ (f us : List ℕ) (fn : Function) (gens kills targets starts reads writes places counts firsts : List ℕ) (b : ℕ) (s : Surveyed f us fn gens kills targets starts reads writes places counts firsts b)
+module _ (f us : List ℕ) (fn : Function) (findings : Findings) (b : ℕ) (s : Surveyed f us fn findings b)
     (once : Distinct us) (fits : length us ≤ 512) (all : AllListed us (flows one (program one f) fn)) where
   abbrev fs : List Flow
   fs = flows one (program one f) fn
@@ -133,24 +134,24 @@ module _ (f us : List ℕ) (fn : Function) (gens kills targets starts reads writ
   many : length fs ≡ b
   many = flows_length one (program one f) fn ∙ sym s.blocks
 
-  block_is : (k : ℕ) → k < length fs → P.block_of gens kills targets starts k ≡ one_step (view (number_flow us (flow_at fs k)))
+  block_is : (k : ℕ) → k < length fs → P.block_of findings.gens findings.kills findings.steps.targets findings.starts k ≡ one_step (view (number_flow us (flow_at fs k)))
   unfolding P.block_of
   block_is k l =
       let h : k < b = omega (arith, many) in
       let uses = (flow_at fs k).uses in
       let each : (x : Use) → Memᴰ x uses → Listed us x = all (flow_at fs k) (mem_at fs k no_flow l) in
-      let r : P.units_at gens (k * 8) ≡ M.gen (map step_view (map (number_use us) uses)) = fun_ext (λ n. units_at_lem us once fits gens (read_first uses) (k * 8) (s.reading k h) n ∙ sym (gen_numbers us once uses each n)) in
-      let w : P.units_at kills (k * 8) ≡ M.kill (map step_view (map (number_use us) uses)) = fun_ext (λ n. units_at_lem us once fits kills (written uses) (k * 8) (s.writing k h) n ∙ sym (kill_numbers us once uses each n)) in
+      let r : P.units_at findings.gens (k * 8) ≡ M.gen (map step_view (map (number_use us) uses)) = fun_ext (λ n. units_at_lem us once fits findings.gens (read_first uses) (k * 8) (s.reading k h) n ∙ sym (gen_numbers us once uses each n)) in
+      let w : P.units_at findings.kills (k * 8) ≡ M.kill (map step_view (map (number_use us) uses)) = fun_ext (λ n. units_at_lem us once fits findings.kills (written uses) (k * 8) (s.writing k h) n ∙ sym (kill_numbers us once uses each n)) in
       rw (r, w, s.going k h)
 
-  blocks_are : P.blocks_of gens kills targets starts b ≡ squash (views (numbered us fs))
+  blocks_are : P.blocks_of findings.gens findings.kills findings.steps.targets findings.starts b ≡ squash (views (numbered us fs))
   unfolding P.blocks_of
   blocks_are =
-      ap (P.listed (P.block_of gens kills targets starts) 0) (sym many)
-      ∙ (listed_map (P.block_of gens kills targets starts) (λ (x : Flow). one_step (view (number_flow us x))) fs 0 (λ j l. let z : 0 + j ≡ j = omega arith in ap (P.block_of gens kills targets starts) z ∙ block_is j l)
+      ap (P.listed (P.block_of findings.gens findings.kills findings.steps.targets findings.starts) 0) (sym many)
+      ∙ (listed_map (P.block_of findings.gens findings.kills findings.steps.targets findings.starts) (λ (x : Flow). one_step (view (number_flow us x))) fs 0 (λ j l. let z : 0 + j ≡ j = omega arith in ap (P.block_of findings.gens findings.kills findings.steps.targets findings.starts) z ∙ block_is j l)
       ∙ sym (map_twice fs us))
 
-  module _ (passes : ℕ) (live : List ℕ) (v : P.Solved gens kills targets starts b passes live) where
+  module _ (passes : ℕ) (live : List ℕ) (v : P.Solved findings.gens findings.kills findings.steps.targets findings.starts b passes live) where
     settled_rows : L.Settled (squash (views (numbered us fs))) passes (P.state_of live b)
     settled_rows = rw blocks_are at v.settled
 
@@ -207,13 +208,13 @@ module _ (f us : List ℕ) (fn : Function) (gens kills targets starts reads writ
         ∙ ap₂ (λ (x y : List ℕ). x ++ y) (rows_are us live sets.ins 0 0 128 (λ j l. let z : 0 + j ≡ j = omega arith in let q : 0 + (0 + j) * 8 ≡ j * 8 = omega arith in rw (q, z) (in_rows j l))) (rows_are us live sets.outs 1024 0 128 (λ j l. let z : 0 + j ≡ j = omega arith in rw z (out_rows j l))))
 
 -- The whole, for a function of an accepted file.
-pub live_of_file : (f us found table : List ℕ) (fn : Function) (gens kills targets starts reads writes places counts firsts : List ℕ) (b passes : ℕ) (live : List ℕ) → Ready f us found table
-    → Memᴰ fn (program one f).functions → Surveyed f us fn gens kills targets starts reads writes places counts firsts b → P.Solved gens kills targets starts b passes live
+pub live_of_file : (f us found table : List ℕ) (fn : Function) (findings : Findings) (b passes : ℕ) (live : List ℕ) → Ready f us found table
+    → Memᴰ fn (program one f).functions → Surveyed f us fn findings b → P.Solved findings.gens findings.kills findings.steps.targets findings.starts b passes live
     → (passes ≡ (liveness one (program one f) fn).passes) × (live ≡ live_words one us (liveness one (program one f) fn).sets)
-live_of_file f us found table fn gens kills targets starts reads writes places counts firsts b passes live ready m s v =
+live_of_file f us found table fn findings b passes live ready m s v =
     let ok = ready.accepted in
     let once = units_once_lem f us ok in
     let all = accepted_listed one f us ok fn m in (
-      passes_are_those f us fn gens kills targets starts reads writes places counts firsts b s once (units_most_lem f us ok) all passes live v,
-      words_are f us fn gens kills targets starts reads writes places counts firsts b s once (units_most_lem f us ok) all passes live v,
+      passes_are_those f us fn findings b s once (units_most_lem f us ok) all passes live v,
+      words_are f us fn findings b s once (units_most_lem f us ok) all passes live v,
     )

@@ -11,6 +11,7 @@ use Rattle.units.specs.Along.{Stands, IsStep, step_from}
 use Rattle.passes.specs.Passes.{width, targets_of, Given}
 use Rattle.liveness.specs.Flow.{Use, use_of, flows}
 use Rattle.liveness.specs.Settle.{flow_at}
+use Rattle.liveness.specs.declared.survey.Findings.{Findings}
 
 -- The units that some steps read before they write them; the units that they write.
 unfoldable pub read_first : List Use → List ℕ
@@ -42,13 +43,13 @@ RowsAt f us fn reads writes i (s ∷ ss) =
     (i < 64 → (row reads (i * width) width ≡ unit_row one us (use_of one (program one f) fn s).reads) × (row writes (i * width) width ≡ unit_row one us (use_of one (program one f) fn s).writes))
     × RowsAt f us fn reads writes (i + 1) ss
 
-pub record Surveyed (f us : List ℕ) (fn : Function) (gens kills targets starts reads writes places counts firsts : List ℕ) (count : ℕ) : Type 0 where
-  pub given : Given gens kills targets starts count
+pub record Surveyed (f us : List ℕ) (fn : Function) (findings : Findings) (count : ℕ) : Type 0 where
+  pub given : Given findings.gens findings.kills findings.steps.targets findings.starts count
   pub blocks : count ≡ length fn.blocks
-  pub reading : (k : ℕ) → k < count → row gens (k * width) width ≡ unit_row one us (read_first (flow_at (flows one (program one f) fn) k).uses)
-  pub writing : (k : ℕ) → k < count → row kills (k * width) width ≡ unit_row one us (written (flow_at (flows one (program one f) fn) k).uses)
-  pub going : (k : ℕ) → k < count → targets_of targets starts k ≡ (flow_at (flows one (program one f) fn) k).targets
-  pub steps : (k : ℕ) → k < count → BeginAt f places counts (get_or firsts k 0) (block_at fn k).steps
-  pub rows : (k : ℕ) → k < count → RowsAt f us fn reads writes (get_or firsts k 0) (block_at fn k).steps
-  pub ends : (k : ℕ) → k < count → get_or firsts (k + 1) 0 ≡ get_or firsts k 0 + length (block_at fn k).steps
-  pub many : (k : ℕ) → k ≤ count → get_or firsts k 0 ≤ length places
+  pub reading : (k : ℕ) → k < count → row findings.gens (k * width) width ≡ unit_row one us (read_first (flow_at (flows one (program one f) fn) k).uses)
+  pub writing : (k : ℕ) → k < count → row findings.kills (k * width) width ≡ unit_row one us (written (flow_at (flows one (program one f) fn) k).uses)
+  pub going : (k : ℕ) → k < count → targets_of findings.steps.targets findings.starts k ≡ (flow_at (flows one (program one f) fn) k).targets
+  pub steps : (k : ℕ) → k < count → BeginAt f findings.steps.places findings.steps.counts (get_or findings.firsts k 0) (block_at fn k).steps
+  pub rows : (k : ℕ) → k < count → RowsAt f us fn findings.steps.reads findings.steps.writes (get_or findings.firsts k 0) (block_at fn k).steps
+  pub ends : (k : ℕ) → k < count → get_or findings.firsts (k + 1) 0 ≡ get_or findings.firsts k 0 + length (block_at fn k).steps
+  pub many : (k : ℕ) → k ≤ count → get_or findings.firsts k 0 ≤ length findings.steps.places

@@ -12,6 +12,8 @@ use Rattle.passes.specs.Passes.{width, part, targets_of}
 use Rattle.liveness.specs.Flow.{Use, use_of, last_targets}
 use Rattle.liveness.specs.Survey.{read_first, written, block_at, BeginAt, RowsAt}
 use Rattle.units.specs.declared.cursor.Cursor.{Cursor}
+use Rattle.liveness.specs.declared.survey.Steps.{Steps}
+use Rattle.liveness.specs.declared.survey.Findings.{Findings}
 use Rattle.liveness.specs.declared.survey.Walk.{Walk}
 
 -- The first n entries stay.
@@ -105,69 +107,75 @@ uses_of f fn ss = map (use_of one (program one f) fn) ss
 
 -- A block whose records begin at `start` is read up to the walk's place: `done` are the steps so far, their places and rows stand from entry s on, and
 -- the targets of the last of them from entry t on.
-pub record InBlock (f us : List ℕ) (fn : Function) (start s t : ℕ) (born dead targets reads writes places counts : List ℕ) (w : Walk) : Type 0 where
+pub record InBlock (f us : List ℕ) (fn : Function) (start s t : ℕ) (born dead : List ℕ) (notes : Steps) (w : Walk) : Type 0 where
   pub done : List Step
   pub splits : (from f start).steps ≡ done ++ (from f w.at).steps
   pub stands : Stands f w.at w.k
   pub many : w.steps ≡ s + length done
-  pub begun : BeginAt f places counts s done
-  pub rows : RowsAt f us fn reads writes s done
+  pub begun : BeginAt f notes.places notes.counts s done
+  pub rows : RowsAt f us fn notes.reads notes.writes s done
   pub reading : born ≡ unit_row one us (read_first (uses_of f fn done))
   pub writing : dead ≡ unit_row one us (written (uses_of f fn done))
-  pub going : last_targets [] (from f start).steps ≡ last_targets (part targets t w.targets ++ (from f w.at).targets) (from f w.at).steps
+  pub going : last_targets [] (from f start).steps ≡ last_targets (part notes.targets t w.targets ++ (from f w.at).targets) (from f w.at).steps
   pub blocks : (from f w.at).blocks ≡ (from f start).blocks
   pub functions : (from f w.at).functions ≡ (from f start).functions
 
 -- The whole block is read.
-pub record BlockRead (f us : List ℕ) (fn : Function) (start s t : ℕ) (born dead targets reads writes places counts : List ℕ) (w : Walk) : Type 0 where
+pub record BlockRead (f us : List ℕ) (fn : Function) (start s t : ℕ) (born dead : List ℕ) (notes : Steps) (w : Walk) : Type 0 where
   pub stands : Stands f w.at w.k
   pub many : w.steps ≡ s + length (from f start).steps
-  pub begun : BeginAt f places counts s (from f start).steps
-  pub rows : RowsAt f us fn reads writes s (from f start).steps
+  pub begun : BeginAt f notes.places notes.counts s (from f start).steps
+  pub rows : RowsAt f us fn notes.reads notes.writes s (from f start).steps
   pub reading : born ≡ unit_row one us (read_first (uses_of f fn (from f start).steps))
   pub writing : dead ≡ unit_row one us (written (uses_of f fn (from f start).steps))
-  pub going : part targets t w.targets ≡ last_targets [] (from f start).steps
+  pub going : part notes.targets t w.targets ≡ last_targets [] (from f start).steps
   pub blocks : (from f w.at).blocks ≡ (from f start).blocks
   pub functions : (from f w.at).functions ≡ (from f start).functions
 
+-- The arrays keep their lengths.
+abbrev pub Alike : Steps → Steps → Type 0
+Alike old new = (length new.targets ≡ length old.targets) × (length new.places ≡ length old.places)
+
 -- What one record of a block adds: the buffers and the walk before it, and after it.
-pub record Taken (f found table : List ℕ) (own : Cursor) (first : ℕ) (born dead targets reads writes places counts : List ℕ) (w : Walk) (born' dead' targets' reads' writes' places' counts' : List ℕ) (r : Walk) : Type 0 where
+pub record Taken (f found table : List ℕ) (own : Cursor) (first : ℕ) (born dead : List ℕ) (notes : Steps) (w : Walk) (born' dead' : List ℕ) (notes' : Steps) (r : Walk) : Type 0 where
   pub within : Within r
   pub on : w.at < r.at
   pub fits : r.at ≤ length f
   pub more_steps : w.steps ≤ r.steps
   pub more_targets : first ≤ r.targets
-  pub kept_targets : Kept first targets targets'
-  pub kept_reads : KeptRows w.steps reads reads'
-  pub kept_writes : KeptRows w.steps writes writes'
-  pub kept_places : Kept w.steps places places'
-  pub kept_counts : Kept w.steps counts counts'
-  pub carries : (us : List ℕ) (fn : Function) (start s : ℕ) → Asked f us found table fn own → InBlock f us fn start s first born dead targets reads writes places counts w
-      → InBlock f us fn start s first born' dead' targets' reads' writes' places' counts' r
+  pub alike : Alike notes notes'
+  pub kept_targets : Kept first notes.targets notes'.targets
+  pub kept_reads : KeptRows w.steps notes.reads notes'.reads
+  pub kept_writes : KeptRows w.steps notes.writes notes'.writes
+  pub kept_places : Kept w.steps notes.places notes'.places
+  pub kept_counts : Kept w.steps notes.counts notes'.counts
+  pub carries : (us : List ℕ) (fn : Function) (start s : ℕ) → Asked f us found table fn own → InBlock f us fn start s first born dead notes w
+      → InBlock f us fn start s first born' dead' notes' r
 
 -- What the records of a block add, from its first on.
-pub record Walked (f found table : List ℕ) (own : Cursor) (born dead targets reads writes places counts : List ℕ) (w : Walk) (born' dead' targets' reads' writes' places' counts' : List ℕ) (r : Walk) : Type 0 where
+pub record Walked (f found table : List ℕ) (own : Cursor) (born dead : List ℕ) (notes : Steps) (w : Walk) (born' dead' : List ℕ) (notes' : Steps) (r : Walk) : Type 0 where
   pub within : Within r
   pub on : w.at ≤ r.at
   pub fits : r.at ≤ length f
   pub more_steps : w.steps ≤ r.steps
   pub more_targets : w.targets ≤ r.targets
-  pub kept_targets : Kept w.targets targets targets'
-  pub kept_reads : KeptRows w.steps reads reads'
-  pub kept_writes : KeptRows w.steps writes writes'
-  pub kept_places : Kept w.steps places places'
-  pub kept_counts : Kept w.steps counts counts'
-  pub carries : (us : List ℕ) (fn : Function) → Asked f us found table fn own → InBlock f us fn w.at w.steps w.targets born dead targets reads writes places counts w
-      → InBlock f us fn w.at w.steps w.targets born' dead' targets' reads' writes' places' counts' r
+  pub alike : Alike notes notes'
+  pub kept_targets : Kept w.targets notes.targets notes'.targets
+  pub kept_reads : KeptRows w.steps notes.reads notes'.reads
+  pub kept_writes : KeptRows w.steps notes.writes notes'.writes
+  pub kept_places : Kept w.steps notes.places notes'.places
+  pub kept_counts : Kept w.steps notes.counts notes'.counts
+  pub carries : (us : List ℕ) (fn : Function) → Asked f us found table fn own → InBlock f us fn w.at w.steps w.targets born dead notes w
+      → InBlock f us fn w.at w.steps w.targets born' dead' notes' r
 
 -- What the buffers hold of block k; its targets are ids still.
-pub record BlockDone (f us : List ℕ) (fn : Function) (gens kills targets starts reads writes places counts firsts ids : List ℕ) (k : ℕ) (b : Block) : Type 0 where
-  pub reading : row gens (k * width) width ≡ unit_row one us (read_first (uses_of f fn b.steps))
-  pub writing : row kills (k * width) width ≡ unit_row one us (written (uses_of f fn b.steps))
-  pub going : targets_of targets starts k ≡ last_targets [] b.steps
-  pub steps : BeginAt f places counts (get_or firsts k 0) b.steps
-  pub rows : RowsAt f us fn reads writes (get_or firsts k 0) b.steps
-  pub ends : get_or firsts (k + 1) 0 ≡ get_or firsts k 0 + length b.steps
+pub record BlockDone (f us : List ℕ) (fn : Function) (findings : Findings) (ids : List ℕ) (k : ℕ) (b : Block) : Type 0 where
+  pub reading : row findings.gens (k * width) width ≡ unit_row one us (read_first (uses_of f fn b.steps))
+  pub writing : row findings.kills (k * width) width ≡ unit_row one us (written (uses_of f fn b.steps))
+  pub going : targets_of findings.steps.targets findings.starts k ≡ last_targets [] b.steps
+  pub steps : BeginAt f findings.steps.places findings.steps.counts (get_or findings.firsts k 0) b.steps
+  pub rows : RowsAt f us fn findings.steps.reads findings.steps.writes (get_or findings.firsts k 0) b.steps
+  pub ends : get_or findings.firsts (k + 1) 0 ≡ get_or findings.firsts k 0 + length b.steps
   pub id : get_or ids k 0 ≡ b.id
 
 -- So many targets and steps are noted before block b, and no earlier block has more before it.
@@ -178,33 +186,41 @@ pub record Tallied (starts firsts : List ℕ) (b : ℕ) (w : Walk) : Type 0 wher
   pub firsts_low : (j : ℕ) → j ≤ b → get_or firsts j 0 ≤ w.steps
 
 -- b blocks are read, and the walk stands before the others.
-pub record Counted (f us : List ℕ) (fn : Function) (own : ℕ) (gens kills targets starts reads writes places counts firsts ids : List ℕ) (b : ℕ) (w : Walk) : Type 0 where
+pub record Counted (f us : List ℕ) (fn : Function) (own : ℕ) (findings : Findings) (ids : List ℕ) (b : ℕ) (w : Walk) : Type 0 where
   pub few : b ≤ length fn.blocks
   pub left : drop b fn.blocks ≡ (from f w.at).blocks
   pub stands : Stands f w.at w.k
   pub functions : (from f w.at).functions ≡ (from f own).functions
   pub stop : (BlockHere f w.at → ⊥) → (from f w.at).blocks ≡ []
-  pub done : (j : ℕ) → j < b → BlockDone f us fn gens kills targets starts reads writes places counts firsts ids j (block_at fn j)
+  pub done : (j : ℕ) → j < b → BlockDone f us fn findings ids j (block_at fn j)
+
+-- The lengths of the arrays by which a block is found again.
+abbrev pub Sized : Findings → Type 0
+Sized findings =
+    (length findings.gens ≡ 1024) × (length findings.kills ≡ 1024) × (length findings.starts ≡ 129) × (length findings.firsts ≡ 129)
+    × (length findings.steps.targets ≡ 5462) × (length findings.steps.places ≡ 4097)
 
 -- What one block adds: the buffers and the walk before it, and after it.
-pub record Grown (f found table : List ℕ) (own : Cursor) (gens kills targets starts reads writes places counts firsts ids : List ℕ) (b : ℕ) (w : Walk)
-    (gens' kills' targets' starts' reads' writes' places' counts' firsts' ids' : List ℕ) (r : Walk) : Type 0 where
+pub record Grown (f found table : List ℕ) (own : Cursor) (findings : Findings) (ids : List ℕ) (b : ℕ) (w : Walk)
+    (findings' : Findings) (ids' : List ℕ) (r : Walk) : Type 0 where
   pub within : Within r
   pub on : w.at < r.at
   pub fits : r.at ≤ length f
-  pub tallied : Tallied starts' firsts' (b + 1) r
-  pub counted : (us : List ℕ) (fn : Function) → Asked f us found table fn own → Counted f us fn own.at gens kills targets starts reads writes places counts firsts ids b w
-      → Counted f us fn own.at gens' kills' targets' starts' reads' writes' places' counts' firsts' ids' (b + 1) r
+  pub sized : Sized findings'
+  pub tallied : Tallied findings'.starts findings'.firsts (b + 1) r
+  pub counted : (us : List ℕ) (fn : Function) → Asked f us found table fn own → Counted f us fn own.at findings ids b w
+      → Counted f us fn own.at findings' ids' (b + 1) r
 
 -- The blocks so far, of a function whose records begin at a cursor.
-pub record Growing (f found table : List ℕ) (own : Cursor) (gens kills targets starts reads writes places counts firsts ids : List ℕ) (b : ℕ) (w : Walk) : Type 0 where
+pub record Growing (f found table : List ℕ) (own : Cursor) (findings : Findings) (ids : List ℕ) (b : ℕ) (w : Walk) : Type 0 where
   pub within : Within w
   pub targets_low : w.targets ≤ 5461
   pub steps_low : w.steps ≤ 4096
   pub few : b ≤ 128
-  pub tallied : Tallied starts firsts b w
+  pub sized : Sized findings
+  pub tallied : Tallied findings.starts findings.firsts b w
   pub counted : (us : List ℕ) (fn : Function) → Asked f us found table fn own → fn.blocks ≡ (from f own.at).blocks
-      → Counted f us fn own.at gens kills targets starts reads writes places counts firsts ids b w
+      → Counted f us fn own.at findings ids b w
 
 -- The cursor behind the record of a function, by the table of functions.
 pub record Owned (table : List ℕ) (number : ℕ) (r : Cursor) : Type 0 where

@@ -4,7 +4,7 @@
 
 pub mod survey;
 
-ghost use Rattle.std.specs.Prelude.{◌≡◌, ℕ, ◌≤◌, length};
+ghost use Rattle.std.specs.Prelude.{◌≡◌, ℕ, ◌<◌, get_or, length};
 ghost use mathlib.Core.List.{List, [], Memᴰ};
 ghost use Rattle.fields.specs.Edition.{one};
 ghost use Rattle.records.specs.Outcome.{laid};
@@ -16,10 +16,11 @@ ghost use Rattle.liveness.specs.Settle.{liveness};
 ghost use Rattle.liveness.specs.Walks.{Owned};
 ghost use Rattle.liveness.specs.Lives.{live_words, lived_by, LivesIn, Lives};
 
-use crate::survey::survey;
+use crate::survey::{Findings, survey};
 use passes::settle;
 use records::{Refusal, number_units};
 use units::cursor::Cursor;
+use units::numbered::Numbered;
 
 // What the table of functions has for a number of no function.
 const NONE: usize = 65535;
@@ -39,59 +40,35 @@ fn own_of(table: &[u16], number: usize) -> Cursor
 }
 
 // The live sets of the function whose records begin at `own`, in words that are 0 at first. Answers how many passes they took.
-fn passes_of(file: &[u8], numbers: &[u16], table: &[u16], own: Cursor, live: &mut [u64]) -> usize
-    requires { (length file.now ≤ 16384) × (2341 ≤ length numbers.now) × Sane table.now × Sound own × (live.old ≡ blank 2048) }
-    ensures { (us : List ℕ) (fn : Function) → Ready file.now us numbers.now table.now → StandsAt file.now own
-        → Memᴰ fn (program one file.now).functions
-        → fn.abis ≡ (from file.now own.at).abis → fn.blocks ≡ (from file.now own.at).blocks
-        → (result ≡ (liveness one (program one file.now) fn).passes) × (live.new ≡ live_words one us (liveness one (program one file.now) fn).sets) }
+fn passes_of(source: Numbered, own: Cursor, live: &mut [u64]) -> usize
+    requires { Sound own × (live.old ≡ blank 2048) }
+    ensures { let f = source.entry.file.now in (us : List ℕ) (fn : Function) → Ready f us source.entry.numbers.now source.entry.table.now
+        → StandsAt f own → Memᴰ fn (program one f).functions → fn.abis ≡ (from f own.at).abis → fn.blocks ≡ (from f own.at).blocks
+        → (result ≡ (liveness one (program one f) fn).passes) × (live.new ≡ live_words one us (liveness one (program one f) fn).sets) }
 {
-    let mut gens = [0u64; 1024];
-    let mut kills = [0u64; 1024];
-    let mut targets = [0u16; 5462];
-    let mut starts = [0u16; 129];
-    let mut reads = [0u64; 520];
-    let mut writes = [0u64; 520];
-    let mut places = [0u16; 4097];
-    let mut counts = [0u16; 4097];
-    let mut firsts = [0u16; 129];
-    let s = survey(
-        file,
-        numbers,
-        table,
-        own,
-        &mut gens,
-        &mut kills,
-        &mut targets,
-        &mut starts,
-        &mut reads,
-        &mut writes,
-        &mut places,
-        &mut counts,
-        &mut firsts,
-    );
-    settle(live, &gens, &kills, &targets, &starts, s.blocks)
+    let mut findings = Findings::new();
+    let s = survey(source, own, &mut findings);
+    settle(live, &findings.blocks(s.blocks))
 }
 
 // The live sets of a function of a file whose units are numbered.
 fn live_of(
-    file: &[u8],
+    source: Numbered,
     number: usize,
     units: &mut [u32],
-    numbers: &[u16],
-    table: &[u16],
     live: &mut [u64],
 ) -> Result<usize, Refusal>
-    requires { (length file.now ≤ 16384) × (2341 ≤ length numbers.now) × Sane table.now × (length units.old ≡ 512) × (live.old ≡ blank 2048) }
-    ensures { (us : List ℕ) → Ready file.now us numbers.now table.now → units.old ≡ laid 512 us []
-        → record { answer = result; units = units.new; live = live.new } ≡ lived_by one file.now number us [] [] (lookup (program one file.now).functions number) }
+    requires { (length units.old ≡ 512) × (live.old ≡ blank 2048) }
+    ensures { let f = source.entry.file.now in (us : List ℕ) → ((i : ℕ) → get_or f i 0 < 256) → Ready f us source.entry.numbers.now source.entry.table.now
+        → units.old ≡ laid 512 us []
+        → record { answer = result; units = units.new; live = live.new } ≡ lived_by one f number us [] [] (lookup (program one f).functions number) }
 {
-    let own = own_of(table, number);
+    let own = own_of(source.table, number);
     if own.at == NONE {
         records::clear(units);
         return Err(Refusal::Absent(number));
     }
-    Ok(passes_of(file, numbers, table, own, live))
+    Ok(passes_of(source, own, live))
 }
 
 // The same of a file that is not checked yet.
@@ -108,7 +85,12 @@ fn live_in(
     let mut numbers = [0u16; 2341];
     let mut table = [0u16; 512];
     number_units(file, units, &mut numbers, &mut table)?;
-    live_of(file, number, units, &numbers, &table, live)
+    let source = Numbered {
+        file,
+        numbers: &numbers,
+        table: &table,
+    };
+    live_of(source, number, units, live)
 }
 
 // Live-in and live-out of every block of a function, as rows of units, and how many passes they took; `units` then holds the file's units by number.

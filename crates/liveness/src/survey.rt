@@ -6,15 +6,17 @@ ghost use Rattle.fields.specs.Edition.{one};
 ghost use Rattle.records.specs.Units.{number_in};
 ghost use Rattle.records.specs.Program.{Step, Function, program};
 ghost use Rattle.units.specs.Rows.{unit_row};
-ghost use Rattle.units.specs.Along.{from, step_from, IsStep, StandsAt, Sound, Sane, Ready};
+ghost use Rattle.units.specs.Along.{from, step_from, IsStep, StandsAt, Sound, SoundSite, Ready};
 ghost use Rattle.passes.specs.Passes.{Given};
 ghost use Rattle.liveness.specs.Flow.{use_of};
 ghost use Rattle.liveness.specs.Survey.{row_for, read_first, written, Surveyed};
-ghost use Rattle.liveness.specs.Walks.{BlockHere, FunctionHere, Stopped, Stops, Paced, Came, BlockNext, Inner, Outer, Kind, Same, Within, Asked, uses_of, Taken, Walked, Tallied, Grown};
+ghost use Rattle.liveness.specs.Walks.{BlockHere, FunctionHere, Stopped, Stops, Paced, Came, BlockNext, Inner, Outer, Kind, Same, Within, Asked, uses_of, Taken, Walked, Tallied, Sized, Grown};
 
 use fields::bytes::{length_of, u16_at};
+use passes::Blocks;
 use units::cursor::{Cursor, brings};
-use units::uses::uses_at;
+use units::locate::Site;
+use units::numbered::Numbered;
 
 // The most blocks of a function, and the words of a row.
 const BLOCKS: usize = 128;
@@ -23,6 +25,64 @@ const ROW: usize = 8;
 
 // The rows of so many steps of a function are kept; those of every later step are written behind them, one over the other.
 pub const KEPT: usize = 64;
+
+// What the survey notes of a function's steps, one behind the other.
+#[derive(Drop)]
+pub struct Steps {
+    // The targets of each block's last step, one block's behind the other's.
+    pub targets: [u16; 5462],
+    // Where each step's record begins, and how many unit numbers come before it.
+    pub places: [u16; 4097],
+    pub counts: [u16; 4097],
+    // Of each step that is kept the row of units that it reads and the row of those that it writes.
+    pub reads: [u64; 520],
+    pub writes: [u64; 520],
+}
+
+// What the survey notes of a function. No number that an earlier function left is read, so one serves all functions of a file.
+#[derive(Drop)]
+pub struct Findings {
+    // Of each block the row of units that it reads before it writes them, and the row of those that it writes.
+    pub gens: [u64; 1024],
+    pub kills: [u64; 1024],
+    // How many targets, and how many steps, come before each block.
+    pub starts: [u16; 129],
+    pub firsts: [u16; 129],
+    pub steps: Steps,
+}
+
+impl Findings {
+    pub fn new() -> Self {
+        Findings {
+            gens: [0; 1024],
+            kills: [0; 1024],
+            starts: [0; 129],
+            firsts: [0; 129],
+            steps: Steps {
+                targets: [0; 5462],
+                places: [0; 4097],
+                counts: [0; 4097],
+                reads: [0; 520],
+                writes: [0; 520],
+            },
+        }
+    }
+
+    // The function's blocks, for the passes.
+    pub fn blocks(&self, count: usize) -> Blocks<'_>
+        requires { Given self.now.gens self.now.kills self.now.steps.targets self.now.starts count }
+        ensures { (result.gens.now ≡ self.now.gens) × (result.kills.now ≡ self.now.kills) × (result.targets.now ≡ self.now.steps.targets)
+            × (result.starts.now ≡ self.now.starts) × (result.count ≡ count) }
+    {
+        Blocks {
+            gens: &self.gens,
+            kills: &self.kills,
+            targets: &self.steps.targets,
+            starts: &self.starts,
+            count,
+        }
+    }
+}
 
 // Where the walk stands: its place, and how many unit numbers, steps and targets come before it.
 #[derive(Clone, Copy)]
@@ -115,30 +175,27 @@ fn inner(file: &[u8], at: usize) -> u8
 
 // A step's two rows, and with them what the steps so far read first and what they write: what it reads and they do not write, and what it writes.
 fn step_rows(
-    file: &[u8],
-    numbers: &[u16],
-    table: &[u16],
-    own: Cursor,
-    here: Cursor,
+    source: Numbered,
+    site: Site,
     reads: &mut [u64],
     writes: &mut [u64],
-    born: &mut [u64],
-    dead: &mut [u64],
+    born: &mut [u64; ROW],
+    dead: &mut [u64; ROW],
 ) -> Cursor
-    requires { (length file.now ≤ 16384) × (2341 ≤ length numbers.now) × Sane table.now × Sound own × Sound here × (here.at + 4 ≤ length file.now)
-        × (length reads.old ≡ 8) × (length writes.old ≡ 8) × (length born.old ≡ 8) × (length dead.old ≡ 8) }
-    ensures { Sound result × (here.at + 4 ≤ result.at) × (result.at ≤ length file.now)
-        × ((us : List ℕ) (fn : Function) (ss : List Step) → Asked file.now us numbers.now table.now fn own
-        → StandsAt file.now here → IsStep file.now here.at
-        → born.old ≡ unit_row one us (read_first (uses_of file.now fn ss))
-        → dead.old ≡ unit_row one us (written (uses_of file.now fn ss))
-        → (reads.new ≡ unit_row one us (use_of one (program one file.now) fn (step_from file.now here.at)).reads)
-        × (writes.new ≡ unit_row one us (use_of one (program one file.now) fn (step_from file.now here.at)).writes)
-        × (born.new ≡ unit_row one us (read_first (uses_of file.now fn (ss ++ (step_from file.now here.at ∷ [])))))
-        × (dead.new ≡ unit_row one us (written (uses_of file.now fn (ss ++ (step_from file.now here.at ∷ [])))))
-        × StandsAt file.now result × Same file.now (here.at + 4) result.at) }
+    requires site { SoundSite source.file.now site }
+    requires rows { (length reads.old ≡ 8) × (length writes.old ≡ 8) }
+    ensures sound { Sound result × (site.here.at + 4 ≤ result.at) × (result.at ≤ length source.entry.file.now) }
+    ensures joined { let f = source.entry.file.now in (us : List ℕ) (fn : Function) (ss : List Step)
+        → Asked f us source.entry.numbers.now source.entry.table.now fn site.own → StandsAt f site.here → IsStep f site.here.at
+        → born.old ≡ unit_row one us (read_first (uses_of f fn ss))
+        → dead.old ≡ unit_row one us (written (uses_of f fn ss))
+        → (reads.new ≡ unit_row one us (use_of one (program one f) fn (step_from f site.here.at)).reads)
+        × (writes.new ≡ unit_row one us (use_of one (program one f) fn (step_from f site.here.at)).writes)
+        × (born.new ≡ unit_row one us (read_first (uses_of f fn (ss ++ (step_from f site.here.at ∷ [])))))
+        × (dead.new ≡ unit_row one us (written (uses_of f fn (ss ++ (step_from f site.here.at ∷ [])))))
+        × StandsAt f result × Same f (site.here.at + 4) result.at }
 {
-    let next = uses_at(file, numbers, table, own, here, reads, writes);
+    let next = source.uses_at(site, reads, writes);
     let mut first = [0u64; ROW];
     rows::copy_row(&mut first, 0, reads, 0, ROW);
     rows::less_from(&mut first, 0, dead, 0, ROW);
@@ -156,30 +213,22 @@ pub fn row_for(s: usize) -> usize
 
 // One record of a block. The targets noted from `first` on are those of the last step.
 fn take_record(
-    file: &[u8],
-    numbers: &[u16],
-    table: &[u16],
+    source: Numbered,
     own: Cursor,
     kind: u8,
     w: Walk,
     first: usize,
-    born: &mut [u64],
-    dead: &mut [u64],
-    targets: &mut [u16],
-    reads: &mut [u64],
-    writes: &mut [u64],
-    places: &mut [u16],
-    counts: &mut [u16],
+    born: &mut [u64; ROW],
+    dead: &mut [u64; ROW],
+    notes: &mut Steps,
 ) -> Walk
-    requires { (length file.now ≤ 16384) × (2341 ≤ length numbers.now) × Sane table.now × Sound own × Within w × Inner file.now w.at kind × (first ≤ w.targets)
-        × (length born.old ≡ 8) × (length dead.old ≡ 8) × (length targets.old ≡ 5462) × (length reads.old ≡ 520) × (length writes.old ≡ 520) × (length places.old ≡ 4097) × (length counts.old ≡ 4097) }
-    ensures { Taken file.now numbers.now table.now own first
-        born.old dead.old targets.old reads.old writes.old places.old counts.old w
-        born.new dead.new targets.new reads.new writes.new places.new counts.new result }
+    requires { Sound own × Within w × Inner source.file.now w.at kind × (first ≤ w.targets) }
+    ensures { Taken source.entry.file.now source.entry.numbers.now source.entry.table.now own first
+        born.old dead.old notes.old w born.new dead.new notes.new result }
 {
     if kind == 8 {
         let t = w.targets;
-        targets[t] = u16_at(file, w.at + 1);
+        notes.targets[t] = u16_at(source.file, w.at + 1);
         return Walk {
             at: w.at + 3,
             k: w.k,
@@ -196,18 +245,15 @@ fn take_record(
         };
     }
     let s = w.steps;
-    places[s] = w.at as u16;
-    counts[s] = w.k as u16;
+    notes.places[s] = w.at as u16;
+    notes.counts[s] = w.k as u16;
     let here = Cursor { at: w.at, k: w.k };
     let b = row_for(s);
     let next = step_rows(
-        file,
-        numbers,
-        table,
-        own,
-        here,
-        &mut reads[b..b + ROW],
-        &mut writes[b..b + ROW],
+        source,
+        Site { own, here },
+        &mut notes.reads[b..b + ROW],
+        &mut notes.writes[b..b + ROW],
         born,
         dead,
     );
@@ -221,76 +267,40 @@ fn take_record(
 
 // The records of one block, from behind its own record on. `born` and `dead` are empty at first.
 fn block_records(
-    file: &[u8],
-    numbers: &[u16],
-    table: &[u16],
+    source: Numbered,
     own: Cursor,
     begin: Walk,
-    born: &mut [u64],
-    dead: &mut [u64],
-    targets: &mut [u16],
-    reads: &mut [u64],
-    writes: &mut [u64],
-    places: &mut [u16],
-    counts: &mut [u16],
+    born: &mut [u64; ROW],
+    dead: &mut [u64; ROW],
+    notes: &mut Steps,
 ) -> Walk
-    requires { (length file.now ≤ 16384) × (2341 ≤ length numbers.now) × Sane table.now × Sound own × Within begin × (begin.at ≤ length file.now)
-        × (length born.old ≡ 8) × (length dead.old ≡ 8) × (length targets.old ≡ 5462) × (length reads.old ≡ 520) × (length writes.old ≡ 520) × (length places.old ≡ 4097) × (length counts.old ≡ 4097) }
-    ensures { Walked file.now numbers.now table.now own
-        born.old dead.old targets.old reads.old writes.old places.old counts.old begin
-        born.new dead.new targets.new reads.new writes.new places.new counts.new result × Outer file.now result.at }
+    requires { Sound own × Within begin × (begin.at ≤ length source.file.now) }
+    ensures { Walked source.entry.file.now source.entry.numbers.now source.entry.table.now own
+        born.old dead.old notes.old begin born.new dead.new notes.new result × Outer source.entry.file.now result.at }
 {
     let mut w = begin;
-    let mut kind = inner(file, w.at);
+    let mut kind = inner(source.file, w.at);
     while 0 < kind {
-        w = take_record(
-            file,
-            numbers,
-            table,
-            own,
-            kind,
-            w,
-            begin.targets,
-            born,
-            dead,
-            targets,
-            reads,
-            writes,
-            places,
-            counts,
-        );
-        kind = inner(file, w.at);
+        w = take_record(source, own, kind, w, begin.targets, born, dead, notes);
+        kind = inner(source.file, w.at);
     }
     w
 }
 
 // One block: its id, its rows, its targets and its steps; and on to the next block.
 fn take_block(
-    file: &[u8],
-    numbers: &[u16],
-    table: &[u16],
+    source: Numbered,
     own: Cursor,
     w: Walk,
     b: usize,
-    gens: &mut [u64],
-    kills: &mut [u64],
-    targets: &mut [u16],
-    starts: &mut [u16],
-    reads: &mut [u64],
-    writes: &mut [u64],
-    places: &mut [u16],
-    counts: &mut [u16],
-    firsts: &mut [u16],
-    ids: &mut [u16],
+    findings: &mut Findings,
+    ids: &mut [u16; BLOCKS],
 ) -> Walk
-    requires { (length file.now ≤ 16384) × (2341 ≤ length numbers.now) × Sane table.now × Sound own × Within w × BlockHere file.now w.at × (b < 128)
-        × (length gens.old ≡ 1024) × (length kills.old ≡ 1024) × (length targets.old ≡ 5462) × (length starts.old ≡ 129)
-        × (length reads.old ≡ 520) × (length writes.old ≡ 520) × (length places.old ≡ 4097) × (length counts.old ≡ 4097) × (length firsts.old ≡ 129) × (length ids.old ≡ 128) × Tallied starts.old firsts.old b w }
-    ensures { Grown file.now numbers.now table.now own
-        gens.old kills.old targets.old starts.old reads.old writes.old places.old counts.old firsts.old ids.old b w
-        gens.new kills.new targets.new starts.new reads.new writes.new places.new counts.new firsts.new ids.new result }
+    requires { Sound own × Within w × BlockHere source.file.now w.at × (b < 128) × Tallied findings.old.starts findings.old.firsts b w }
+    ensures { Grown source.entry.file.now source.entry.numbers.now source.entry.table.now own
+        findings.old ids.old b w findings.new ids.new result }
 {
-    ids[b] = u16_at(file, w.at + 1);
+    ids[b] = u16_at(source.file, w.at + 1);
     let mut born = [0u64; ROW];
     let mut dead = [0u64; ROW];
     let begin = Walk {
@@ -300,18 +310,22 @@ fn take_block(
         targets: w.targets,
     };
     let end = block_records(
-        file, numbers, table, own, begin, &mut born, &mut dead, targets, reads, writes, places,
-        counts,
+        source,
+        own,
+        begin,
+        &mut born,
+        &mut dead,
+        &mut findings.steps,
     );
-    rows::copy_row(gens, b * ROW, &born, 0, ROW);
-    rows::copy_row(kills, b * ROW, &dead, 0, ROW);
-    starts[b + 1] = end.targets as u16;
-    firsts[b + 1] = end.steps as u16;
+    rows::copy_row(&mut findings.gens, b * ROW, &born, 0, ROW);
+    rows::copy_row(&mut findings.kills, b * ROW, &dead, 0, ROW);
+    findings.starts[b + 1] = end.targets as u16;
+    findings.firsts[b + 1] = end.steps as u16;
     let c = Cursor {
         at: end.at,
         k: end.k,
     };
-    let next = seek(file, c, true);
+    let next = seek(source.file, c, true);
     Walk {
         at: next.at,
         k: next.k,
@@ -364,37 +378,22 @@ fn at_block(file: &[u8], at: usize, b: usize) -> bool
 }
 
 // The function whose records begin at `own`, for the passes and for the graph.
-pub fn survey(
-    file: &[u8],
-    numbers: &[u16],
-    table: &[u16],
-    own: Cursor,
-    gens: &mut [u64],
-    kills: &mut [u64],
-    targets: &mut [u16],
-    starts: &mut [u16],
-    reads: &mut [u64],
-    writes: &mut [u64],
-    places: &mut [u16],
-    counts: &mut [u16],
-    firsts: &mut [u16],
-) -> Overview
-    requires { (length file.now ≤ 16384) × (2341 ≤ length numbers.now) × Sane table.now × Sound own
-        × (length gens.old ≡ 1024) × (length kills.old ≡ 1024) × (length targets.old ≡ 5462) × (length starts.old ≡ 129)
-        × (length reads.old ≡ 520) × (length writes.old ≡ 520) × (length places.old ≡ 4097) × (length counts.old ≡ 4097) × (length firsts.old ≡ 129) }
-    ensures { Given gens.new kills.new targets.new starts.new result.blocks × Sound result.after
-        × ((us : List ℕ) (fn : Function) → Ready file.now us numbers.now table.now → StandsAt file.now own
-        → Memᴰ fn (program one file.now).functions
-        → fn.abis ≡ (from file.now own.at).abis → fn.blocks ≡ (from file.now own.at).blocks
-        → Surveyed file.now us fn gens.new kills.new targets.new starts.new reads.new writes.new places.new counts.new firsts.new result.blocks
-        × StandsAt file.now result.after
-        × ((from file.now result.after.at).functions ≡ (from file.now own.at).functions)
-        × ((FunctionHere file.now result.after.at → ⊥) → (from file.now result.after.at).functions ≡ [])) }
+pub fn survey(source: Numbered, own: Cursor, findings: &mut Findings) -> Overview
+    requires { Sound own }
+    ensures given { Given findings.new.gens findings.new.kills findings.new.steps.targets findings.new.starts result.blocks }
+    ensures sized { Sized findings.new }
+    ensures sound { Sound result.after }
+    ensures surveyed { let f = source.entry.file.now in (us : List ℕ) (fn : Function)
+        → Ready f us source.entry.numbers.now source.entry.table.now → StandsAt f own → Memᴰ fn (program one f).functions
+        → fn.abis ≡ (from f own.at).abis → fn.blocks ≡ (from f own.at).blocks
+        → Surveyed f us fn findings.new result.blocks × StandsAt f result.after
+        × ((from f result.after.at).functions ≡ (from f own.at).functions)
+        × ((FunctionHere f result.after.at → ⊥) → (from f result.after.at).functions ≡ []) }
 {
     let mut ids = [0u16; BLOCKS];
-    starts[0] = 0;
-    firsts[0] = 0;
-    let c = seek(file, own, true);
+    findings.starts[0] = 0;
+    findings.firsts[0] = 0;
+    let c = seek(source.file, own, true);
     let mut w = Walk {
         at: c.at,
         k: c.k,
@@ -402,15 +401,12 @@ pub fn survey(
         targets: 0,
     };
     let mut b = 0;
-    while at_block(file, w.at, b) {
-        w = take_block(
-            file, numbers, table, own, w, b, gens, kills, targets, starts, reads, writes, places,
-            counts, firsts, &mut ids,
-        );
+    while at_block(source.file, w.at, b) {
+        w = take_block(source, own, w, b, findings, &mut ids);
         b += 1;
     }
-    number_targets(&ids, b, targets, w.targets);
+    number_targets(&ids, b, &mut findings.steps.targets, w.targets);
     let c = Cursor { at: w.at, k: w.k };
-    let after = seek(file, c, false);
+    let after = seek(source.file, c, false);
     Overview { blocks: b, after }
 }

@@ -8,15 +8,19 @@ use Rattle.graph.proofs.Drawing.{blank_of, drawn_refused, counted_of, counted_sa
 use borrow.Author.Rules.{rules}
 use Rattle.graph.proofs.graph_in.Goals as goal
 
+pub invariant_of-source : goal.invariant_of-source
+invariant_of-source c =
+    let bytes : (i : ℕ) → get_or c.args.file.now i 0 < 256 = λ i. omega (arith, c.type_inv.file i) in
+    let h = c.number_units.ensures in
+    let e = c.in_ok-n.was in
+    record { short = counted_short _ _ _ _ _ h bytes _ e; enough = search rules; sane = counted_sane _ _ _ _ _ h bytes _ e }
+
 pub graph_of-requires : goal.graph_of-requires
 graph_of-requires c =
     let bytes : (i : ℕ) → get_or c.args.file.now i 0 < 256 = λ i. omega (arith, c.type_inv.file i) in
     let h = c.number_units.ensures in
     let e = c.in_ok-n.was in (
-      counted_short _ _ _ _ _ h bytes _ e,
       counted_header _ _ _ _ _ h bytes _ e,
-      search rules,
-      counted_sane _ _ _ _ _ h bytes _ e,
       search rules,
       counted_most _ _ _ _ _ h bytes _ e,
       blank_of 2048 _ _ c.requires.1 c.clear.ensures,

@@ -7,10 +7,13 @@ use Rattle.liveness.proofs.Answering.{blank_of, lived_refused, lived_done}
 use borrow.Author.Rules.{rules}
 use Rattle.liveness.proofs.live_in.Goals as goal
 
-pub live_of-requires : goal.live_of-requires
-live_of-requires c =
+pub invariant_of-source : goal.invariant_of-source
+invariant_of-source c =
     let a = numbered_units c.args.file.now 0 _ _ _ _ c.number_units.ensures (λ i. omega (arith, c.type_inv.file i)) _ c.in_ok-number_units.was in
-    (a.short, search rules, a.sane, search rules, blank_of _ _ c.requires.1 c.clear.ensures)
+    record { short = a.short; enough = search rules; sane = a.sane }
+
+pub live_of-requires : goal.live_of-requires
+live_of-requires c = (search rules, blank_of _ _ c.requires.1 c.clear.ensures)
 
 pub returns-in_err-number_units : goal.returns-in_err-number_units
 returns-in_err-number_units c =
@@ -20,4 +23,4 @@ returns-in_err-number_units c =
 pub returns : goal.returns
 returns c =
     let a = numbered_units c.args.file.now c.args.number _ _ _ _ c.number_units.ensures (λ i. omega (arith, c.type_inv.file i)) _ c.in_ok-number_units.was in
-    lived_done _ _ _ _ _ a _ _ _ c.live_of.ensures
+    lived_done _ _ _ _ _ a _ _ _ (λ us ready w. c.live_of.ensures us (λ i. omega (arith, c.type_inv.file i)) ready w)

@@ -1,6 +1,5 @@
 -- The loop's invariant: the records so far are passed, and the kind at hand is that of the record at the place, or 0 where the block ends.
 -- The measure is what is left of the file. Assumes nothing.
-use borrow.Author.Rules.{rules}
 use native.Mathlib.Omega.{arith}
 use Rattle.liveness.proofs.Taking.{walked_none, walked_on, kind_there, kind_done}
 use Rattle.liveness.proofs.survey.block_records.Goals as goal
@@ -8,12 +7,12 @@ use Rattle.liveness.proofs.survey.block_records.Goals as goal
 pub loop-kind-init : goal.loop-kind-init
 loop-kind-init c =
     let p = c.requires in
-    (p.0, p.1, p.2, p.3, p.6, p.7, p.8, p.9, p.10, p.11, p.12, walked_none _ _ _ _ _ _ _ _ _ _ _ _ p.4 p.5, c.inner-kind.ensures)
+    (p.0, walked_none _ _ _ _ _ _ _ _ p.1 p.2, c.inner-kind.ensures)
 
 pub take_record-w-requires : goal.take_record-w-requires
 take_record-w-requires c =
     let i = c.loop-kind.invariant in
-    (i.0, i.1, i.2, i.3, i.11.within, kind_there _ _ _ i.12 c.loop-kind-test.true, i.11.more_targets, i.4, i.5, i.6, i.7, i.8, i.9, i.10)
+    (i.0, i.1.within, kind_there _ _ _ i.2 c.loop-kind-test.true, i.1.more_targets)
 
 pub loop-kind-smaller : goal.loop-kind-smaller
 loop-kind-smaller c = omega (arith, c.take_record-w.ensures.on, c.take_record-w.ensures.fits)
@@ -21,7 +20,7 @@ loop-kind-smaller c = omega (arith, c.take_record-w.ensures.on, c.take_record-w.
 pub loop-kind-preserved : goal.loop-kind-preserved
 loop-kind-preserved c =
     let i = c.loop-kind.invariant in
-    (i.0, i.1, i.2, i.3, search rules, search rules, search rules, search rules, search rules, search rules, search rules, walked_on _ _ _ _ _ _ _ _ _ _ _ _ _ _ _ _ _ _ _ _ i.11 _ _ _ _ _ _ _ _ c.take_record-w.ensures, c.inner-kind-in-loop-kind.ensures)
+    (i.0, walked_on _ _ _ _ _ _ _ _ _ _ _ _ i.1 _ _ _ _ c.take_record-w.ensures, c.inner-kind-in-loop-kind.ensures)
 
 pub returns : goal.returns
-returns c = (c.loop-kind.invariant.11, kind_done _ _ _ c.loop-kind.invariant.12 c.loop-kind-test.false)
+returns c = (c.loop-kind.invariant.1, kind_done _ _ _ c.loop-kind.invariant.2 c.loop-kind-test.false)

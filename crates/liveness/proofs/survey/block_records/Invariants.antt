@@ -1,15 +1,14 @@
 -- The loop's invariant: the records so far are passed, and the kind at hand is that of the record at the place, or 0 where the block ends.
 -- The measure is what is left of the file. Assumes nothing.
-use mathlib.Core.Path.{◌≡◌}
-use Prim.Native.Nat.{◌≤◌, ◌-◌}
+use Prim.Native.Nat.{◌-◌}
 use lib.ListN.{length}
-use Rattle.units.specs.Along.{Sound, Sane}
+use Rattle.units.specs.Along.{Sound}
 use Rattle.liveness.specs.Walks.{Walked, Kind}
 use Rattle.liveness.proofs.survey.block_records.Given as goal
 
 abbrev pub invariant-loop-kind : goal.invariant-loop-kind
-invariant-loop-kind l = (length l.file ≤ 16384) × (2341 ≤ length l.numbers) × Sane l.table × Sound l.own × (length l.born ≡ 8) × (length l.dead ≡ 8) × (length l.targets ≡ 5462) × (length l.reads ≡ 520) × (length l.writes ≡ 520) × (length l.places ≡ 4097) × (length l.counts ≡ 4097)
-    × Walked l.file l.numbers l.table l.own l.initial.born l.initial.dead l.initial.targets l.initial.reads l.initial.writes l.initial.places l.initial.counts l.begin l.born l.dead l.targets l.reads l.writes l.places l.counts l.w × Kind l.file l.w.at l.kind
+invariant-loop-kind l = Sound l.own
+    × Walked l.source.file.now l.source.numbers.now l.source.table.now l.own l.initial.born l.initial.dead l.initial.notes l.begin l.born l.dead l.notes l.w × Kind l.source.file.now l.w.at l.kind
 
 abbrev pub decreases-loop-kind : goal.decreases-loop-kind
-decreases-loop-kind l = length l.file - l.w.at
+decreases-loop-kind l = length l.source.file.now - l.w.at

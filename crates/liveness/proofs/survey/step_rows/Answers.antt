@@ -1,20 +1,10 @@
 -- The words are the step's rows and those that it joins to the rows before it, and the cursor behind its operands has the same to come.
 -- Each call gives one equation of words. Assumes nothing.
-use native.Mathlib.Omega.{arith}
 use Rattle.liveness.proofs.Gathering.{step_joined}
 use borrow.Author.Rules.{rules}
 use Rattle.liveness.proofs.survey.step_rows.Goals as goal
 
-pub union_from-requires-2 : goal.union_from-requires-2
-union_from-requires-2 c = (omega (arith, c.requires.9), omega (arith, c.requires.7))
-
-pub returns : goal.returns
-returns c =
-    let u = c.uses_at-next.ensures in (
-      u.0,
-      u.1,
-      u.2,
-      λ us fn ss.
-          step_joined _ us _ _ fn _ _ _ ss _ _ _ _ _ _ _ _ _ c.requires.8 c.requires.9 (search rules) u.4 u.3
-          c.copy_row.ensures c.less_from.ensures c.union_from.ensures c.union_from-2.ensures,
-    )
+pub returns-clause-joined : goal.returns-clause-joined
+returns-clause-joined c us fn ss =
+    step_joined _ us _ _ fn _ _ _ ss _ _ _ _ _ _ _ _ _ (search rules) (search rules) (search rules) c.uses_at-next.ensures.uses c.uses_at-next.ensures.behind
+    c.copy_row.ensures c.less_from.ensures c.union_from.ensures c.union_from-2.ensures
