@@ -2,7 +2,6 @@
 // there one after another, each behind its length in two bytes, the low one first.
 #![tactic(auto)]
 
-use fields::bytes::u16_at;
 use input::read_full;
 use std::io::{Read, Result, Write};
 
@@ -26,7 +25,7 @@ fn replay_next<R: Read, W: Write>(from: &mut R, out: &mut W) -> Result<bool> {
     if got < 2 {
         return Ok(false);
     }
-    let length = u16_at(&head, 0) as usize;
+    let length = usize::from(u16::from_le_bytes(head));
     let mut file = [0u8; 65536];
     replay_file(from, out, &mut file[..length])?;
     Ok(true)

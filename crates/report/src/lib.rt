@@ -4,6 +4,7 @@
 #![tactic(auto)]
 
 mod functions;
+mod numbers;
 mod page;
 mod placing;
 mod record_places;
@@ -15,20 +16,26 @@ ghost use Rattle.std.specs.Io.KnownBytes.{Appends};
 ghost use Rattle.report.specs.Printed.{AppendsFront, printed};
 
 use functions::put_functions;
-use lines::answer::put_answer;
 use lines::placing::Setting;
-use page::{room, write_out};
+use page::{Page, write_out};
 use placing::put_placing;
 use std::io::{Result, Write};
 use storage_lines::put_graph;
 
-// Writes the whole text of a file. It can be longer than the page, which is then written in pieces.
+// Writes the whole text of a file, in pieces where it is longer than a page. Behind the answer of
+// `check`, an accepted file has the lines of its functions, of its graph and of its placing, and a
+// refused one has nothing.
 pub fn report<W: Write>(out: &mut W, file: &[u8]) -> Result<()> {
     let mut units = [0u32; 512];
     let checked = records::check(file, &mut units);
-    let mut page = [0u8; 65536];
-    let end = put_answer(&mut page, &units, checked);
-    write_with_analysis(out, &mut page, end, file, &mut units, checked.is_ok())
+    let mut page = Page::new(out);
+    page.put_answer(&units, checked);
+    if let Checked::Units(_) = checked {
+        put_functions(&mut page, file, &mut units)?;
+        put_graph(&mut page, file, &mut units)?;
+        page.put_placing(file, &mut units)?;
+    }
+    page.write_out()
 }
 
 // Writes the placing of a file alone, or the one line of its refusal. So what the program `place`
@@ -38,15 +45,8 @@ pub fn place<W: Write>(out: &mut W, file: &[u8]) -> Result<()>
     ensures cut { OnErr result (AppendsFront (W.contents out.old) (W.contents out.new) (printed file.now)) }
 {
     let mut page = [0u8; 65536];
-    write_placing(out, &mut page, file)
-}
-
-fn write_placing<W: Write>(out: &mut W, page: &mut [u8; 65536], file: &[u8]) -> Result<()>
-    ensures whole { OnOk result (Appends (W.contents out.old) (W.contents out.new) (printed file.now)) }
-    ensures cut { OnErr result (AppendsFront (W.contents out.old) (W.contents out.new) (printed file.now)) }
-{
-    let end = put_placed(page, file);
-    write_out(out, page, end)
+    let end = put_placed(&mut page, file);
+    write_out(out, &page[..end])
 }
 
 // Puts the text of a file's placing from the start of the page, and answers where it ends.
@@ -56,26 +56,4 @@ fn put_placed(page: &mut [u8; 65536], file: &[u8]) -> usize
 {
     let mut units = [0u32; 512];
     put_placing(page, 0, file, &mut units, Setting::Alone)
-}
-
-// Behind the answer of `check`, which ends at `at`, an accepted file has the lines of its functions,
-// of its graph and of its placing, and a refused one has nothing.
-fn write_with_analysis<W: Write>(
-    out: &mut W,
-    page: &mut [u8; 65536],
-    at: usize,
-    file: &[u8],
-    units: &mut [u32; 512],
-    accepted: bool,
-) -> Result<()>
-    requires { at ≤ 65536 }
-{
-    if !accepted {
-        return write_out(out, page, at);
-    }
-    let functions = put_functions(out, page, at, file, units)?;
-    let graph = put_graph(out, page, functions, file, units)?;
-    let start = room(out, page, graph, 24000)?;
-    let end = put_placing(page, start, file, units, Setting::InReport);
-    write_out(out, page, end)
 }

@@ -1,25 +1,27 @@
-// The page of a text that may be longer than the page: what stands there is written out when little
-// room is left. Each function puts its text at a place and answers where that text ends.
-ghost use Rattle.std.specs.Prelude.{◌+◌, ◌≤◌, IfOk, OnErr, OnOk, length, take};
+// The page: a writer in front of another one. What is written to it is kept until the page is full,
+// so that a text that can be long goes out in few large writes, from memory of a fixed size.
+ghost use Rattle.std.specs.Prelude.{◌≡◌, ◌+◌, ◌≤◌, OnErr, OnOk};
 ghost use Rattle.std.specs.Io.KnownBytes.{Appends};
 ghost use Rattle.report.specs.Printed.{AppendsFront};
 
-use lines::text::{put, put_number};
+use crate::placing::put_placing;
+use lines::answer::put_answer;
+use lines::placing::Setting;
+use records::Checked;
 use std::io::{Error, ErrorKind, Result, Write};
 
-// Writes the first bytes of a page. It is the loop of `write_all` over again, since that promises
-// nothing of what an error leaves. The turns are counted, as there, so that the loop ends.
-pub fn write_out<W: Write>(out: &mut W, page: &[u8], count: usize) -> Result<()>
-    requires { count ≤ length page.now }
-    ensures whole { OnOk result (Appends (W.contents out.old) (W.contents out.new) (take count page.now)) }
-    ensures cut { OnErr result (AppendsFront (W.contents out.old) (W.contents out.new) (take count page.now)) }
+// Writes a text. It is the loop of `write_all` over again, since that promises nothing of what an
+// error leaves. The turns are counted, as there, so that the loop ends.
+pub fn write_out<W: Write>(out: &mut W, text: &[u8]) -> Result<()>
+    ensures whole { OnOk result (Appends (W.contents out.old) (W.contents out.new) text.now) }
+    ensures cut { OnErr result (AppendsFront (W.contents out.old) (W.contents out.new) text.now) }
 {
     let mut done = 0;
     'writes: for _ in 0..u64::MAX {
-        if done >= count {
+        if done >= text.len() {
             return Ok(());
         }
-        match out.write(&page[done..count]) {
+        match out.write(&text[done..]) {
             Ok(0) => {
                 let message = "failed to write whole buffer";
                 return Err(Error::new(ErrorKind::WriteZero, message));
@@ -35,69 +37,74 @@ pub fn write_out<W: Write>(out: &mut W, page: &[u8], count: usize) -> Result<()>
     Err(Error::from(ErrorKind::TimedOut))
 }
 
-// Makes room for so many bytes: where fewer are left, the page is written out and starts anew.
-pub fn room<W: Write>(out: &mut W, page: &mut [u8; 65536], at: usize, bytes: usize) -> Result<usize>
-    requires { (at ≤ 65536) × (bytes ≤ 65536) }
-    ensures { IfOk result (λ r. r + bytes ≤ 65536) }
-{
-    if at <= 65536 - bytes {
-        return Ok(at);
-    }
-    write_out(out, page, at)?;
-    Ok(0)
+// The text that waits stands in front of `end`.
+#[derive(Drop)]
+pub struct Page<W> {
+    out: W,
+    bytes: [u8; 65536],
+    end: usize,
+    ghost fits: { end ≤ 65536 },
 }
 
-// A word of at most 1,000 bytes.
-pub fn put_word<W: Write>(
-    out: &mut W,
-    page: &mut [u8; 65536],
-    at: usize,
-    word: &[u8],
-) -> Result<usize>
-    requires { (at ≤ 65536) × (length word.now ≤ 1000) }
-    ensures { IfOk result (λ r. r ≤ 65536) }
-{
-    let start = room(out, page, at, 1024)?;
-    Ok(put(page, start, word))
-}
-
-// A word and, right behind it, a number.
-pub fn put_named<W: Write>(
-    out: &mut W,
-    page: &mut [u8; 65536],
-    at: usize,
-    word: &[u8],
-    number: u64,
-) -> Result<usize>
-    requires { (at ≤ 65536) × (length word.now ≤ 1000) }
-    ensures { IfOk result (λ r. r ≤ 65536) }
-{
-    let start = room(out, page, at, 1024)?;
-    let name = put(page, start, word);
-    Ok(put_number(page, name, number))
-}
-
-// A name, and the numbers of the row that has `width` words from `base` on, rising, a space before
-// each.
-pub fn put_set<W: Write>(
-    out: &mut W,
-    page: &mut [u8; 65536],
-    at: usize,
-    name: &[u8],
-    words: &[u64],
-    base: usize,
-    width: usize,
-) -> Result<usize>
-    requires { (at ≤ 65536) × (length name.now ≤ 1000) × (base + width ≤ length words.now) × (width ≤ 8) }
-    ensures { IfOk result (λ r. r ≤ 65536) }
-{
-    let mut end = put_word(out, page, at, name)?;
-    let mut n = 0;
-    while n / 64 < width {
-        if rows::has(words, base, n) {
-            end = put_named(out, page, end, b" ", n as u64)?;
+impl<W: Write> Page<W> {
+    pub fn new(out: W) -> Self
+        ensures { result.end ≡ 0 }
+    {
+        Page {
+            out,
+            bytes: [0; 65536],
+            end: 0,
         }
-        n += 1;
     }
-    Ok(end)
+
+    // Hands on what waits, and the page starts anew.
+    pub fn write_out(&mut self) -> Result<()>
+        ensures { OnOk result (self.new.end ≡ 0) }
+    {
+        write_out(&mut self.out, &self.bytes[..self.end])?;
+        self.end = 0;
+        Ok(())
+    }
+
+    // Where fewer bytes than that are left, the page is written out.
+    fn make_room(&mut self, count: usize) -> Result<()>
+        requires { count ≤ 65536 }
+        ensures { OnOk result (self.new.end + count ≤ 65536) }
+    {
+        if 65536 - self.end < count {
+            self.write_out()?;
+        }
+        Ok(())
+    }
+
+    // The answer of `check` is the first text of a page, which has room for all of it.
+    pub fn put_answer(&mut self, units: &[u32; 512], checked: Checked)
+        requires { self.old.end ≡ 0 }
+    {
+        self.end = put_answer(&mut self.bytes, units, checked);
+    }
+
+    // A placing has its room before it is put.
+    pub fn put_placing(&mut self, file: &[u8], units: &mut [u32; 512]) -> Result<()> {
+        self.make_room(24000)?;
+        self.end = put_placing(&mut self.bytes, self.end, file, units, Setting::InReport);
+        Ok(())
+    }
+}
+
+// Of a text that is longer than the page it takes the first part, as writers may.
+impl<W: Write> Write for Page<W> {
+    fn write(&mut self, text: &[u8]) -> Result<usize> {
+        let count = text.len().min(65536);
+        self.make_room(count)?;
+        let end = self.end + count;
+        self.bytes[self.end..end].copy_from_slice(&text[..count]);
+        self.end = end;
+        Ok(count)
+    }
+
+    fn flush(&mut self) -> Result<()> {
+        self.write_out()?;
+        self.out.flush()
+    }
 }

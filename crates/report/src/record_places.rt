@@ -1,60 +1,124 @@
-// The records of an accepted file, place by place. A place is where a record's kind byte stands.
-// The readers answer 0 where a file ends too early, which no accepted file does.
-ghost use Rattle.std.specs.Prelude.{◌<◌, ◌≤◌, length};
+// The records of an accepted file, one after another.
+ghost use Rattle.std.specs.Prelude.{◌<◌, ◌≤◌, ◌-◌, length};
+ghost use Rattle.std.specs.Iterator.{at_most};
 
 use fields::bytes::{length_of, u16_at};
 
-// The place of the next record, or the file's length where there is none.
-pub fn next_place(file: &[u8], place: usize) -> usize
-    requires { place < length file.now }
-    ensures { (place < result) × (result ≤ length file.now) }
-{
-    let length = length_of(file[place]);
-    if length == 0 {
-        return file.len();
-    }
-    if file.len() - place < length {
-        return file.len();
-    }
-    place + length
+// The kinds that a report tells apart. A step is an instruction or a terminator, and an operand or a
+// target is a part of one.
+#[derive(Clone, Copy, PartialEq, Eq)]
+pub enum Kind {
+    Storage,
+    Function,
+    Block,
+    Step,
+    Part,
+    Other,
 }
 
-// A byte as a number of the machine's width.
-fn wide(b: u8) -> usize {
-    b as usize
+// A record stands in the file from its place on, which is where its kind byte is.
+// The readers answer 0 where a file ends too early, which no accepted file does.
+#[derive(Clone, Copy)]
+pub struct Record<'a> {
+    pub file: &'a [u8],
+    pub place: usize,
+    ghost inside: { place < length file.now },
 }
 
-// The number of the function record at a place.
-pub fn number_at(file: &[u8], place: usize) -> usize
-    requires { place < length file.now }
-{
-    if file.len() - place < 2 {
-        return 0;
-    }
-    wide(file[place + 1])
-}
-
-// The id of the storage record or block record at a place.
-pub fn id_at(file: &[u8], place: usize) -> usize
-    requires { place < length file.now }
-{
-    if file.len() - place < 3 {
-        return 0;
-    }
-    u16_at(file, place + 1) as usize
-}
-
-// How many blocks the function at a place has: those before the next function.
-pub fn count_blocks(file: &[u8], place: usize) -> usize
-    requires { place < length file.now }
-{
-    let mut count = 0;
-    let mut next = next_place(file, place);
-    while next < file.len() && file[next] != 2 {
-        if file[next] == 4 {
-            count += 1;
+impl<'a> Record<'a> {
+    pub fn kind(&self) -> Kind {
+        match self.file[self.place] {
+            1 => Kind::Storage,
+            2 => Kind::Function,
+            4 => Kind::Block,
+            5 | 7 => Kind::Step,
+            6 | 8 => Kind::Part,
+            _ => Kind::Other,
         }
-        next = next_place(file, next);
     }
-    count
+
+    // The number of a function.
+    pub fn number(&self) -> usize {
+        self.file
+            .get(self.place + 1)
+            .map_or(0, |number| usize::from(*number))
+    }
+
+    // The id of a storage or a block.
+    pub fn id(&self) -> usize {
+        if self.file.len() - self.place < 3 {
+            return 0;
+        }
+        usize::from(u16_at(self.file, self.place + 1))
+    }
+
+    // The place of the next record, or the file's length where there is none.
+    fn next_place(&self) -> usize
+        ensures { (self.now.place < result) × (result ≤ length self.now.file.now) }
+    {
+        let length = length_of(self.file[self.place]);
+        if length == 0 || self.file.len() - self.place < length {
+            return self.file.len();
+        }
+        self.place + length
+    }
+
+    // The records behind this one.
+    pub fn following(&self) -> Records<'a> {
+        Records {
+            file: self.file,
+            place: self.next_place(),
+        }
+    }
+
+    // The blocks of a function: those before the next function.
+    pub fn blocks(&self) -> Blocks<'a> {
+        Blocks(self.following())
+    }
+}
+
+// The records from a place on, in file order.
+#[derive(Clone, Copy)]
+pub struct Records<'a> {
+    file: &'a [u8],
+    place: usize,
+}
+
+impl<'a> Records<'a> {
+    pub fn of(file: &'a [u8]) -> Self {
+        Records { file, place: 0 }
+    }
+}
+
+impl<'a> Iterator for Records<'a> {
+    type Item = Record<'a>;
+
+    ghost remaining = { λ s. at_most (length s.file.now - s.place) };
+
+    fn next(&mut self) -> Option<Record<'a>> {
+        if self.place >= self.file.len() {
+            return None;
+        }
+        let record = Record {
+            file: self.file,
+            place: self.place,
+        };
+        self.place = record.next_place();
+        Some(record)
+    }
+}
+
+// The blocks of one function among the records behind it.
+#[derive(Clone, Copy)]
+pub struct Blocks<'a>(Records<'a>);
+
+impl<'a> Iterator for Blocks<'a> {
+    type Item = Record<'a>;
+
+    ghost remaining = { λ s. at_most (length s.0.file.now - s.0.place) };
+
+    fn next(&mut self) -> Option<Record<'a>> {
+        let next = self.0.find(|record| matches!(record.kind(), Kind::Block | Kind::Function))?;
+        (next.kind() == Kind::Block).then_some(next)
+    }
 }
