@@ -55,9 +55,14 @@ fn put_blocks(
 fn put_block(out: &mut impl Write, id: usize, live: &[u64; 2048], number: usize) -> Result<()>
     requires { number < 128 }
 {
-    let live_in = Numbers::of(&live[8 * number..8 * number + 8]);
-    let live_out = Numbers::of(&live[1024 + 8 * number..1032 + 8 * number]);
-    writeln!(out, "block {id} in{live_in} out{live_out}")
+    let live_in = &live[8 * number..8 * number + 8];
+    let live_out = &live[1024 + 8 * number..1032 + 8 * number];
+    writeln!(
+        out,
+        "block {id} in{} out{}",
+        Numbers::of(live_in),
+        Numbers::of(live_out)
+    )
 }
 
 // The steps of a block: those before the next block, function or end.

@@ -1,5 +1,5 @@
-// The numbers of a set, as a line shows them.
-ghost use Rattle.std.specs.Prelude.{◌≤◌, length};
+// The numbers of a set, as a line shows them: they rise, and a space stands before each.
+ghost use Rattle.std.specs.Prelude.{◌<◌, ◌≤◌, length};
 
 use std::fmt::{Display, Formatter, Result, Write};
 
@@ -16,14 +16,25 @@ impl<'a> Numbers<'a> {
     {
         Numbers { row }
     }
-}
 
-// They rise, and a space stands before each.
-impl Display for Numbers<'_> {
-    fn fmt<W: Write>(&self, f: &mut Formatter<W>) -> Result {
-        for n in 0..64 * self.row.len() {
+    fn fmt_word<W: Write>(&self, f: &mut Formatter<W>, i: usize) -> Result
+        requires { i < length self.now.row.now }
+    {
+        for n in 64 * i..64 * i + 64 {
             if rows::has(self.row, 0, n) {
                 write!(f, " {n}")?;
+            }
+        }
+        Ok(())
+    }
+}
+
+// Most words of most sets are 0, and are passed over.
+impl Display for Numbers<'_> {
+    fn fmt<W: Write>(&self, f: &mut Formatter<W>) -> Result {
+        for (i, word) in self.row.iter().enumerate() {
+            if *word != 0 {
+                self.fmt_word(f, i)?;
             }
         }
         Ok(())

@@ -10,21 +10,19 @@ pub fn put_step(out: &mut impl Write, step: Record<'_>, units: &mut [u32; 512]) 
     let mut reads = [0u64; 8];
     let _ = units::unit_reads(file, place, units, &mut reads);
     let mut writes = [0u64; 8];
-    units::unit_writes(file, place, units, &mut writes);
-    let mut read = [0u64; 4];
-    units::storage_reads(file, place, units, &mut read);
-    let mut written = [0u64; 4];
-    units::storage_writes(file, place, units, &mut written);
+    let _ = units::unit_writes(file, place, units, &mut writes);
+    let mut storages_read = [0u64; 4];
+    let _ = units::storage_reads(file, place, units, &mut storages_read);
+    let mut storages_written = [0u64; 4];
+    let _ = units::storage_writes(file, place, units, &mut storages_written);
     let effect = effect_word(units::observable_effect(file, place, units));
-
-    let reads = Numbers::of(&reads);
-    let writes = Numbers::of(&writes);
-    write!(out, "at {place} reads{reads} writes{writes}")?;
-    let read = Numbers::of(&read);
-    let written = Numbers::of(&written);
     writeln!(
         out,
-        " storages-read{read} storages-written{written} effect {effect}"
+        "at {place} reads{} writes{} storages-read{} storages-written{} effect {effect}",
+        Numbers::of(&reads),
+        Numbers::of(&writes),
+        Numbers::of(&storages_read),
+        Numbers::of(&storages_written),
     )
 }
 

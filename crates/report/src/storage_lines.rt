@@ -32,8 +32,7 @@ fn put_storage(out: &mut impl Write, id: usize, near: &[u64; 1024]) -> Result<()
     if row.iter().all(|word| *word == 0) {
         return Ok(());
     }
-    let neighbours = Numbers::of(row);
-    writeln!(out, "storage {id} interferes{neighbours}")
+    writeln!(out, "storage {id} interferes{}", Numbers::of(row))
 }
 
 // The pairs of copies, each in the row of its smaller id.
