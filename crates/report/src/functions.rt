@@ -19,17 +19,10 @@ fn put_function(out: &mut impl Write, function: Record<'_>, units: &mut [u32; 51
     let number = function.number();
     let blocks = function.blocks().count();
     let mut live = [0u64; 2048];
-    let passes = passes_of(liveness::live(function.file, number, units, &mut live));
+    // A function of an accepted file is never refused.
+    let passes = liveness::live(function.file, number, units, &mut live).unwrap_or(0);
     writeln!(out, "function {number} blocks {blocks} passes {passes}")?;
     put_blocks(out, function, units, &live)
-}
-
-// A function of an accepted file is never refused.
-fn passes_of(lived: Lived) -> usize {
-    match lived {
-        Lived::Passes(n) => n,
-        Lived::Refused(_) => 0,
-    }
 }
 
 // The blocks of a function, of which there are at most 128.

@@ -15,7 +15,11 @@ pub fn put_step(out: &mut impl Write, step: Record<'_>, units: &mut [u32; 512]) 
     let _ = units::storage_reads(file, place, units, &mut storages_read);
     let mut storages_written = [0u64; 4];
     let _ = units::storage_writes(file, place, units, &mut storages_written);
-    let effect = effect_word(units::observable_effect(file, place, units));
+    // A step of an accepted file is never refused.
+    let effect = match units::observable_effect(file, place, units) {
+        Ok(true) => "yes",
+        Ok(false) | Err(_) => "no",
+    };
     writeln!(
         out,
         "at {place} reads{} writes{} storages-read{} storages-written{} effect {effect}",
@@ -24,13 +28,4 @@ pub fn put_step(out: &mut impl Write, step: Record<'_>, units: &mut [u32; 512]) 
         Numbers::of(&storages_read),
         Numbers::of(&storages_written),
     )
-}
-
-// A step of an accepted file is never refused.
-fn effect_word(effect: Effect) -> &'static str {
-    match effect {
-        Effect::Yes => "yes",
-        Effect::No | Effect::Refused(_) => "no",
-    }
-    put_word(out, page, at, b" effect no\n")
 }

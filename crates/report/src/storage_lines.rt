@@ -3,14 +3,14 @@ ghost use Rattle.std.specs.Prelude.{◌<◌};
 
 use crate::numbers::Numbers;
 use crate::record_places::{Kind, Records};
-use graph::Graphed;
 use std::io::{Result, Write};
 
 pub fn put_graph(out: &mut impl Write, file: &[u8], units: &mut [u32; 512]) -> Result<()> {
     let mut live = [0u64; 2048];
     let mut near = [0u64; 1024];
     let mut copies = [0u64; 1024];
-    let passes = passes_of(graph::graph(file, units, &mut live, &mut near, &mut copies));
+    // An accepted file is never refused.
+    let passes = graph::graph(file, units, &mut live, &mut near, &mut copies).unwrap_or(0);
     writeln!(out, "graph passes {passes}")?;
     put_storages(out, file, &near)?;
     put_copies(out, &copies)
