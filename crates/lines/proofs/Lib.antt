@@ -1,3 +1,2 @@
-mod Digits
+mod Decimal
 mod Joined
-mod Placed

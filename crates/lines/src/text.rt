@@ -1,45 +1,41 @@
-// Words and numbers on a page of text. Each function puts its text at a place and answers where that
-// text ends, which is where the next one starts.
-ghost use Rattle.std.specs.Prelude.{◌≡◌, ◌+◌, ◌≤◌, length, take};
-ghost use Rattle.lines.specs.Text.{Follows, decimal, shape_text};
+// Words and numbers on a page of text. A page is a vector of bytes whose room is fixed, and each
+// function puts its text at the end.
+ghost use Rattle.std.specs.Prelude.{◌≡◌, ◌+◌, ◌≤◌, ◌++◌, length};
+ghost use Rattle.arrayvec.specs.ArrayVec.{array_vec_len};
+ghost use Rattle.lines.specs.Text.{decimal, shape_text};
 
-// Puts the bytes of `word` on the page from `at` on.
-pub fn put(page: &mut [u8], at: usize, word: &[u8]) -> usize
-    requires { at + length word.now ≤ length page.old }
-    ensures ends { result ≡ at + length word.now }
-    ensures text { Follows (take at page.old) word.now (take result page.new) }
+use arrayvec::ArrayVec;
+
+// Puts the bytes of `word`.
+pub fn put<const ROOM: usize>(page: &mut ArrayVec<u8, ROOM>, word: &[u8])
+    requires { array_vec_len page.old + length word.now ≤ ROOM }
+    ensures { page.new.items ≡ page.old.items ++ word.now }
 {
-    let mut i = 0;
-    while i < word.len() {
-        page[at + i] = word[i];
-        i += 1;
-    }
-    at + i
+    let _ = page.try_extend_from_slice(word);
 }
 
 // Puts a number in decimal, which takes at most 20 digits.
-pub fn put_number(page: &mut [u8], at: usize, number: u64) -> usize
-    requires { at + 20 ≤ length page.old }
-    ensures ends { result ≤ at + 20 }
-    ensures text { Follows (take at page.old) (decimal number) (take result page.new) }
+#[tactic(auto, using(crate::proofs::Decimal::std_decimal))]
+pub fn put_number<const ROOM: usize>(page: &mut ArrayVec<u8, ROOM>, number: u64)
+    requires { array_vec_len page.old + 20 ≤ ROOM }
+    ensures ends { array_vec_len page.new ≤ array_vec_len page.old + 20 }
+    ensures text { page.new.items ≡ page.old.items ++ decimal number }
 {
-    let mut digits = [0u8; 20];
-    let count = io::decimal(number, &mut digits);
-    put(page, at, &digits[..count])
+    let mut digits = itoa::Buffer::new();
+    put(page, digits.format(number).as_bytes());
 }
 
 // Puts the name of a unit's shape between two spaces: 1 is a byte lane, 2 a bit, and 3 a whole
 // object. No unit has another shape.
-pub fn put_shape(page: &mut [u8], at: usize, shape: u32) -> usize
-    requires { at + 8 ≤ length page.old }
-    ensures ends { result ≤ at + 8 }
-    ensures text { Follows (take at page.old) (shape_text shape) (take result page.new) }
+#[tactic(auto, unfolding(crate::specs::Text::shape_text))]
+pub fn put_shape<const ROOM: usize>(page: &mut ArrayVec<u8, ROOM>, shape: u32)
+    requires { array_vec_len page.old + 8 ≤ ROOM }
+    ensures ends { array_vec_len page.new ≤ array_vec_len page.old + 8 }
+    ensures text { page.new.items ≡ page.old.items ++ shape_text shape }
 {
-    if shape == 1 {
-        return put(page, at, b" lane ");
+    match shape {
+        1 => put(page, b" lane "),
+        2 => put(page, b" bit "),
+        _ => put(page, b" object "),
     }
-    if shape == 2 {
-        return put(page, at, b" bit ");
-    }
-    put(page, at, b" object ")
 }

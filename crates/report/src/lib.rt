@@ -11,10 +11,12 @@ mod record_places;
 mod steps;
 mod storage_lines;
 
-ghost use Rattle.std.specs.Prelude.{◌≡◌, ◌≤◌, OnErr, OnOk, take};
+ghost use Rattle.std.specs.Prelude.{◌≡◌, ◌+◌, ◌≤◌, ◌++◌, OnErr, OnOk};
 ghost use Rattle.std.specs.Io.KnownBytes.{Appends};
+ghost use Rattle.arrayvec.specs.ArrayVec.{array_vec_len};
 ghost use Rattle.report.specs.Printed.{AppendsFront, printed};
 
+use arrayvec::ArrayVec;
 use functions::put_functions;
 use lines::placing::Setting;
 use page::{Page, write_out};
@@ -44,16 +46,16 @@ pub fn place<W: Write>(out: &mut W, file: &[u8]) -> Result<()>
     ensures whole { OnOk result (Appends (W.contents out.old) (W.contents out.new) (printed file.now)) }
     ensures cut { OnErr result (AppendsFront (W.contents out.old) (W.contents out.new) (printed file.now)) }
 {
-    let mut page = [0u8; 65536];
-    let end = put_placed(&mut page, file);
-    write_out(out, &page[..end])
+    let mut page = ArrayVec::<u8, 24000>::new();
+    put_placed(&mut page, file);
+    write_out(out, &page)
 }
 
-// Puts the text of a file's placing from the start of the page, and answers where it ends.
-fn put_placed(page: &mut [u8; 65536], file: &[u8]) -> usize
-    ensures ends { result ≤ 65536 }
-    ensures text { take result page.new ≡ printed file.now }
+// Puts the text of a file's placing.
+fn put_placed<const ROOM: usize>(page: &mut ArrayVec<u8, ROOM>, file: &[u8])
+    requires { array_vec_len page.old + 24000 ≤ ROOM }
+    ensures { page.new.items ≡ page.old.items ++ printed file.now }
 {
     let mut units = [0u32; 512];
-    put_placing(page, 0, file, &mut units, Setting::Alone)
+    put_placing(page, file, &mut units, Setting::Alone);
 }

@@ -1,12 +1,15 @@
 // The page: a writer in front of another one. What is written to it is kept until the page is full,
 // so that a text that can be long goes out in few large writes, from memory of a fixed size.
-ghost use Rattle.std.specs.Prelude.{◌≡◌, ◌+◌, ◌≤◌, OnErr, OnOk};
+ghost use Rattle.std.specs.Prelude.{◌≡◌, ◌+◌, ◌≤◌, [], OnErr, OnOk};
 ghost use Rattle.std.specs.Io.KnownBytes.{Appends};
+ghost use Rattle.arrayvec.specs.ArrayVec.{array_vec_len};
 ghost use Rattle.report.specs.Printed.{AppendsFront};
 
 use crate::placing::put_placing;
+use arrayvec::ArrayVec;
 use lines::answer::put_answer;
 use lines::placing::Setting;
+use lines::text::put;
 use records::Refusal;
 use std::io::{Error, ErrorKind, Result, Write};
 
@@ -37,57 +40,53 @@ pub fn write_out<W: Write>(out: &mut W, text: &[u8]) -> Result<()>
     Err(Error::from(ErrorKind::TimedOut))
 }
 
-// The text that waits stands in front of `end`.
 #[derive(Drop)]
 pub struct Page<W> {
     out: W,
-    bytes: [u8; 65536],
-    end: usize,
-    ghost fits: { end ≤ 65536 },
+    waiting: ArrayVec<u8, 65536>,
 }
 
 impl<W: Write> Page<W> {
     pub fn new(out: W) -> Self
-        ensures { result.end ≡ 0 }
+        ensures { result.waiting.items ≡ [] }
     {
         Page {
             out,
-            bytes: [0; 65536],
-            end: 0,
+            waiting: ArrayVec::new(),
         }
     }
 
     // Hands on what waits, and the page starts anew.
     pub fn write_out(&mut self) -> Result<()>
-        ensures { OnOk result (self.new.end ≡ 0) }
+        ensures { OnOk result (self.new.waiting.items ≡ []) }
     {
-        write_out(&mut self.out, &self.bytes[..self.end])?;
-        self.end = 0;
+        write_out(&mut self.out, &self.waiting)?;
+        self.waiting.clear();
         Ok(())
     }
 
     // Where fewer bytes than that are left, the page is written out.
     fn make_room(&mut self, count: usize) -> Result<()>
         requires { count ≤ 65536 }
-        ensures { OnOk result (self.new.end + count ≤ 65536) }
+        ensures { OnOk result (array_vec_len self.new.waiting + count ≤ 65536) }
     {
-        if 65536 - self.end < count {
+        if self.waiting.remaining_capacity() < count {
             self.write_out()?;
         }
         Ok(())
     }
 
     // The answer of `check` is the first text of a page, which has room for all of it.
-    pub fn put_answer(&mut self, units: &[u32; 512], checked: core::result::Result<usize, Refusal>)
-        requires { self.old.end ≡ 0 }
+    pub fn put_answer(&mut self, units: &[u32; 512], checked: std::result::Result<usize, Refusal>)
+        requires { self.old.waiting.items ≡ [] }
     {
-        self.end = put_answer(&mut self.bytes, units, checked);
+        put_answer(&mut self.waiting, units, checked);
     }
 
     // A placing has its room before it is put.
     pub fn put_placing(&mut self, file: &[u8], units: &mut [u32; 512]) -> Result<()> {
         self.make_room(24000)?;
-        self.end = put_placing(&mut self.bytes, self.end, file, units, Setting::InReport);
+        put_placing(&mut self.waiting, file, units, Setting::InReport);
         Ok(())
     }
 }
@@ -97,9 +96,7 @@ impl<W: Write> Write for Page<W> {
     fn write(&mut self, text: &[u8]) -> Result<usize> {
         let count = text.len().min(65536);
         self.make_room(count)?;
-        let end = self.end + count;
-        self.bytes[self.end..end].copy_from_slice(&text[..count]);
-        self.end = end;
+        put(&mut self.waiting, &text[..count]);
         Ok(count)
     }
 
