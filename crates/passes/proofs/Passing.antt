@@ -7,6 +7,7 @@ use mathlib.Core.List.{List, [], ◌∷◌}
 use Prim.Native.Nat.{ℕ, zero, suc, ◌+◌, ◌-◌, ◌*◌, ◌/◌, ◌%◌, ◌≤◌, ◌<◌}
 use native.Mathlib.Omega.{arith}
 use native.Mathlib.Numerals.{add-one}
+use native.Mathlib.Nat.{add-zero}
 use native.Mathlib.Decide.{ℕ_discrete}
 use lib.Dec.{ltb, lit<}
 use lib.Bits.{bit_or}
@@ -14,7 +15,6 @@ use lib.ListN.{length, drop, get_or, replicate, length-replicate, drop_of_length
 use lib.Seq.{drop-cons}
 use borrow.Author.Tests.{lt-ltb, le-ltb, ltb-true, ltb-false, not-true, not-false}
 use Rattle.std.proofs.lemmas.Bool.{or_parts}
-use Rattle.std.proofs.lemmas.List.FromFn.{length-map-range_with_len, get_or-map-range_with_len}
 use Rattle.rows.specs.Row.{Apart, Words, bit, less, member, member_at, row, put, or_row, less_row, same_row}
 use Rattle.rows.proofs.Tests.{either}
 use Rattle.rows.proofs.Digit.{bit_zero}
@@ -149,11 +149,14 @@ blank_member n u = member_none n u
 
 listed_len : (f : ℕ → Block) (k n : ℕ) → length (listed f k n) ≡ n
 unfolding listed
-listed_len f k n = length-map-range_with_len f k n
+listed_len f k zero = refl
+listed_len f k (suc n) = ap suc (listed_len f (suc k) n)
 
 listed_at : (f : ℕ → Block) (k n j : ℕ) → j < n → get_or (listed f k n) j no_block ≡ f (k + j)
 unfolding listed
-listed_at f k n j h = get_or-map-range_with_len f k n j (k + j) no_block h refl
+listed_at f k zero j h = absurd (omega arith)
+listed_at f k (suc n) zero h = ap f (sym (add-zero k))
+listed_at f k (suc n) (suc j) h = listed_at f (suc k) n j (omega arith) ∙ ap f (omega arith)
 
 module _ (gens kills targets starts : List ℕ) (count : ℕ) where
   pub blocks_len : length (blocks_of gens kills targets starts count) ≡ count

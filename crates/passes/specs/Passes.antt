@@ -1,8 +1,8 @@
 -- The passes of Live over rows of words: how four lists of numbers are a function's blocks, how a buffer of 2048 words is its live sets,
 -- and what `settle` leaves in that buffer. Document 01, "Liveness and interference". Below, what a visit writes, word for word, and which visits may be left out.
-use Rattle.std.specs.Prelude.{◌≡◌, Bool, true, false, not, ◌&&◌, ◌||◌, ◌⊎◌, ℕ, ◌+◌, ◌-◌, ◌*◌, ◌≤◌, ◌<◌, ltb, length, get_or, take, drop, replicate}
-use Rattle.std.specs.List.{list_any, range_with_len}
-use mathlib.Core.List.{List, map, [], ◌∷◌, Memᴰ}
+use Rattle.std.specs.Prelude.{◌≡◌, Bool, true, false, not, ◌&&◌, ◌||◌, ◌⊎◌, ℕ, zero, suc, ◌+◌, ◌-◌, ◌*◌, ◌≤◌, ◌<◌, ltb, length, get_or, take, drop, replicate}
+use Rattle.std.specs.List.{list_any}
+use mathlib.Core.List.{List, [], ◌∷◌, Memᴰ}
 use Rattle.rows.specs.Row.{Words, member_at, row, put, or_row, less_row, same_row}
 use Rattle.fields.specs.Pick.{pick}
 use Rattle.passes.specs.Live.{Row, Block, State, pass, Settled}
@@ -35,7 +35,8 @@ block_of gens kills targets starts k = record {
 
 -- n blocks, from number k on.
 unfoldable pub listed : (ℕ → Block) → ℕ → ℕ → List Block
-listed f k n = map f (range_with_len k n)
+listed f k zero = []
+listed f k (suc n) = f k ∷ listed f (suc k) n
 
 unfoldable pub blocks_of : List ℕ → List ℕ → List ℕ → List ℕ → ℕ → List Block
 blocks_of gens kills targets starts count = listed (block_of gens kills targets starts) 0 count
