@@ -7,15 +7,15 @@ use mathlib.Core.Bool.{Bool, true, false}
 use mathlib.Core.List.{List, [], ◌++◌}
 use Prim.Native.Nat.{ℕ, ◌≤◌, ◌<◌}
 use native.Mathlib.Omega.{arith}
-use lib.Dec.{ltb, leb}
+use lib.Dec.{ltb}
 use lib.ListN.{length, get_or, drop, replicate}
-use borrow.Author.Tests.{le-ltb, lt-ltb, ne_eqb, le-leb, lt-leb}
+use borrow.Author.Tests.{le-ltb, lt-ltb}
 use Rattle.rows.specs.Row.{pack}
-use Rattle.fields.specs.Pick.{pick, pick_yes, pick_no, ◌and◌, ◌or◌, has}
+use Rattle.fields.specs.Pick.{pick, pick_yes, pick_no, ◌or◌, has}
 use Rattle.fields.specs.Edition.{one}
 use Rattle.records.specs.Check.{Answer, units, refusal, check}
 use Rattle.records.specs.Outcome.{Outcome, laid, outcome_by, Numbers}
-use Rattle.records.specs.Program.{Function, empty, step_of, program}
+use Rattle.records.specs.Program.{Function, program}
 use Rattle.records.specs.Place.{nowhere, step_at}
 use Rattle.records.specs.declared.Refusal.{Refusal}
 use Rattle.records.specs.declared.Refusal.TheVariants.{Short, Absent}
@@ -42,50 +42,6 @@ or_yes true = refl
 or_yes false = refl
 
 -- The observable effect -----------------------------------------------------------------------------------------------------------------------
-
-module _ (ends : Bool) (op sub : ℕ) where
-  pub effect_terminator : ends ≡ true → false ≡ effect (step_of ends op sub 0 empty)
-  unfolding effect pick
-  effect_terminator e = rw e
-
-  module _ (e : ends ≡ false) where
-    pub effect_divide : op ≡ 10 → true ≡ effect (step_of ends op sub 0 empty)
-    unfolding effect pick
-    effect_divide h = rw (e, h)
-
-    wide : op ≡ 26 → (leb 1 sub and leb sub 4) ≡ effect (step_of ends op sub 0 empty)
-    unfolding effect pick
-    wide h = rw (e, h)
-
-    pub effect_wide : op ≡ 26 → 1 ≤ sub → leb sub 4 ≡ effect (step_of ends op sub 0 empty)
-    effect_wide h l = sym (pick_yes _ _ _ (le-leb 1 sub l)) ∙ wide h
-
-    pub effect_wide_none : op ≡ 26 → sub < 1 → leb 1 sub ≡ effect (step_of ends op sub 0 empty)
-    effect_wide_none h l = let k = lt-leb 1 sub l in k ∙ sym (pick_no _ _ _ k) ∙ wide h
-
-    pub effect_low : (op ≡ 10 → ⊥) → op ≤ 15 → leb 12 op ≡ effect (step_of ends op sub 0 empty)
-    unfolding effect pick
-    effect_low d l = rw (e, ne_eqb op 10 d, le-leb op 15 l, lt-leb 27 op (omega arith), ne_eqb op 26 (λ q. omega arith)) (go (leb 12 op))
-      where
-        go : (b : Bool) → b ≡ pick (pick b true false) true false
-        go true = refl
-        go false = refl
-
-    high : (op ≡ 26 → ⊥) → 15 < op → (leb 27 op and leb op 29) ≡ effect (step_of ends op sub 0 empty)
-    unfolding effect pick
-    high d l = rw (e, ne_eqb op 10 (λ q. omega arith), lt-leb op 15 l, ne_eqb op 26 d) (go (leb 12 op) (leb 27 op and leb op 29))
-      where
-        go : (a b : Bool) → b ≡ pick (pick a false false) true (pick b true false)
-        go true true = refl
-        go true false = refl
-        go false true = refl
-        go false false = refl
-
-    pub effect_high : (op ≡ 26 → ⊥) → 15 < op → 27 ≤ op → leb op 29 ≡ effect (step_of ends op sub 0 empty)
-    effect_high d l k = sym (pick_yes _ _ _ (le-leb 27 op k)) ∙ high d l
-
-    pub effect_high_none : (op ≡ 26 → ⊥) → 15 < op → op < 27 → leb 27 op ≡ effect (step_of ends op sub 0 empty)
-    effect_high_none d l k = let q = lt-leb 27 op k in q ∙ sym (pick_no _ _ _ q) ∙ high d l
 
 -- The step at the front of a tail of the file.
 effect_here : (f t : List ℕ) (at : ℕ) (b : Bool) → t ≡ drop at f → b ≡ effect (step_from t 0) → b ≡ effect (step_from f at)

@@ -4,7 +4,7 @@ use mathlib.Core.Path.{◌≡◌, refl, sym, ap, ◌∙◌}
 use mathlib.Core.Logic.{inl, inr}
 use mathlib.Core.Bool.{Bool, true, false, true≢false, ◌||◌}
 use mathlib.Core.List.{List, [], ◌∷◌, map}
-use Prim.Native.Nat.{ℕ, zero, suc, ◌+◌, ◌*◌, ◌/◌, ◌%◌, ◌^◌, ◌≤◌, ◌<◌}
+use Prim.Native.Nat.{ℕ, zero, suc, ◌+◌, ◌*◌, ◌≤◌, ◌<◌}
 use native.Mathlib.Omega.{arith}
 use lib.Dec.{ltb, leb, eqb}
 use lib.ListN.{length, get_or, take, drop, replicate, length-drop, length-map}
@@ -31,7 +31,7 @@ use Rattle.units.specs.Uses.{units_in, units_of}
 use Rattle.units.specs.Rows.{listed, unit_row}
 use Rattle.records.specs.Index.{brought}
 use Rattle.units.specs.Along.{from, numbers_in, Stands, IsStep}
-use Rattle.units.specs.Marks.{jotted, marks, roles_in, fields_in, opens_seven, read_in, written_in}
+use Rattle.units.specs.Marks.{jotted, marks, roles_in, fields_in, opens_seven}
 use Rattle.units.proofs.Standing.{aligned, stands_inside, units_once_lem, units_most_lem, stands_on}
 
 -- The record at a place, by its kind ---------------------------------------------------------------------------------------------------------
@@ -214,20 +214,9 @@ module _ (f : List ℕ) (at : ℕ) where
   unfolding u8_at
   byte_at i = get_or-drop at f i 0
 
-  -- what the code's test says of a place
-  pub opened : (t : List ℕ) (kind : ℕ) (b x : Bool) → t ≡ drop at f → b ≡ opens_seven t kind → b ≡ x → opens_seven (drop at f) kind ≡ x
-  opened t kind b x e p q = ap (λ (l : List ℕ). opens_seven l kind) (sym e) ∙ sym p ∙ q
-
-  pub seven_fits : (kind : ℕ) → opens_seven (drop at f) kind ≡ true → at + 7 ≤ length f
-  unfolding opens_seven
-  seven_fits kind e = omega (arith, leb-true 7 (length (drop at f)) (and_both _ _ e).0, length-drop at f)
-
   -- one record more at a place, and those behind it
   pub fields_on : opens_seven (drop at f) 6 ≡ true → fields_in (drop at f) ≡ get_or f (at + 1) 0 ∷ fields_in (drop (at + 7) f)
   fields_on e = rw (fields_some (drop at f) e, byte_at 1, drop-drop 7 at f)
-
-  pub roles_on : opens_seven (drop at f) 3 ≡ true → roles_in (drop at f) ≡ get_or f (at + 1) 0 ∷ roles_in (drop (at + 7) f)
-  roles_on e = rw (roles_some (drop at f) e, byte_at 1, drop-drop 7 at f)
 
 -- a cursor goes on over the operands
 pub operands_on : (f us : List ℕ) → check one f ≡ units us → (n at k : ℕ) → n ≡ length (fields_in (drop at f)) → Stands f at k → Stands f (at + 7 * n) (k + n)
@@ -265,35 +254,6 @@ pub either_way : {A : Type 0} (b : Bool) (x : A) → pick b x x ≡ x
 unfolding pick
 either_way true x = refl
 either_way false x = refl
-
-module _ (wanted : Bool) (n : ℕ) (row : List ℕ) where
-  pub jotted_no : wanted ≡ false → jotted wanted n row ≡ row
-  unfolding jotted
-  jotted_no e = pick_no _ _ _ e
-
-  pub jotted_low : n < 512 → jotted wanted n row ≡ pick wanted (with_at row 0 n) row
-  unfolding jotted
-  jotted_low l = ap (λ (x : List ℕ). pick wanted x row) (pick_yes _ _ _ (lt-ltb n 512 l))
-
-  pub jotted_past : 512 ≤ n → jotted wanted n row ≡ row
-  unfolding jotted
-  jotted_past l = ap (λ (x : List ℕ). pick wanted x row) (pick_no _ _ _ (le-ltb n 512 l)) ∙ either_way wanted row
-
--- By the flags of a field's byte.
-module _ (fields field n : ℕ) (row : List ℕ) where
-  pub jotted_read : (b : ℕ) (row' : List ℕ) → b ≡ fields / 256 ^ field % 256 → n < 512 → row' ≡ pick (eqb (b / 64 % 2) 1) (with_at row 0 n) row → row' ≡ jotted (read_in fields field) n row
-  unfolding read_in
-  jotted_read b row' e l q = q ∙ ap (λ (x : ℕ). pick (eqb (x / 64 % 2) 1) (with_at row 0 n) row) e ∙ sym (jotted_low _ n row l)
-
-  pub jotted_written : (ends : Bool) (b : ℕ) (row' : List ℕ) → ends ≡ false → b ≡ fields / 256 ^ field % 256 → n < 512 → row' ≡ pick (eqb (b / 32 % 2) 1) (with_at row 0 n) row
-      → row' ≡ jotted (written_in fields ends field) n row
-  unfolding written_in
-  jotted_written ends b row' f e l q =
-      q ∙ ap (λ (x : ℕ). pick (eqb (x / 32 % 2) 1) (with_at row 0 n) row) e ∙ sym (jotted_low _ n row l) ∙ ap (λ (t : Bool). jotted t n row) (sym (pick_no ends _ _ f))
-
-  pub jotted_end : (ends : Bool) → ends ≡ true → row ≡ jotted (written_in fields ends field) n row
-  unfolding written_in
-  jotted_end ends f = sym (jotted_no _ n row (pick_yes ends _ _ f))
 
 pub length_jotted : (wanted : Bool) (n : ℕ) (row : List ℕ) → length (jotted wanted n row) ≡ length row
 unfolding jotted pick

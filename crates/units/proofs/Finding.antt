@@ -1,14 +1,15 @@
 -- The walk to a place. What the definition finds from the front on is what it finds from the cursor on, in the function behind the last function
 -- record; before the first one that is the header's, which has neither ABI records nor blocks, and so is the definition's.
-use Rattle.std.specs.Prelude.{Some}
+use Rattle.std.specs.Prelude.{Option, Some, None}
+use Rattle.std.specs.Bool.{then_some}
 use mathlib.Core.Path.{◌≡◌, refl, sym, ap, ◌∙◌}
 use mathlib.Core.Logic.{◌⊎◌, inl, inr, ⊎_elim}
 use mathlib.Core.Bool.{Bool, true, false, true≢false}
 use mathlib.Core.List.{List, [], ◌∷◌}
-use Prim.Native.Nat.{ℕ, zero, suc, ◌+◌, ◌-◌, ◌*◌, ◌≤◌, ◌<◌}
+use Prim.Native.Nat.{ℕ, zero, suc, ◌+◌, ◌*◌, ◌≤◌, ◌<◌}
 use native.Mathlib.Omega.{arith}
 use lib.Dec.{eqb}
-use lib.ListN.{length, get_or, take, drop, length-drop, drop_of_length-le}
+use lib.ListN.{length, get_or, take, drop}
 use lib.Seq.{get_or-drop, drop-drop, length-take-le}
 use borrow.Author.Tests.{eqb-true, eq-eqb, ne_eqb}
 use Rattle.fields.specs.Pick.{pick, pick_yes, pick_no, ◌or◌}
@@ -18,17 +19,18 @@ use Rattle.records.specs.Step.{State, start, at_start, at_end}
 use Rattle.records.specs.Check.{units, check, at_tail, pieces_by, pieces, records}
 use Rattle.records.specs.Program.{Function, Rest, put_step, put, step_of, function_of}
 use Rattle.records.specs.Place.{step, nowhere, no_function, within, starts_with, find_in, step_at}
-use Rattle.fields.proofs.Front.{read_whole, read_take, or_cases}
+use Rattle.fields.proofs.Front.{read_whole, whole_read, read_take, or_cases}
 use Rattle.fields.proofs.ByKind.{length_one, length_none, kind_header, kind_storage, kind_function, kind_abi, kind_block, kind_instruction, kind_operand, kind_terminator, kind_target, kind_end}
-use Rattle.records.proofs.Scan.{Walk, done, more, walk, pieces_nil, pieces_whole}
+use Rattle.records.proofs.Scan.{Walk, done, more, walk, pieces_whole}
 use Rattle.records.proofs.Took.{stepped}
 use Rattle.records.proofs.Contents.{rest, rest_whole}
 use Rattle.records.proofs.Stages.{Calm, start_calm, Passed, passed}
-use Rattle.records.proofs.Reading.{no_kind, no_body, whole_kind}
+use Rattle.records.proofs.Reading.{no_kind, no_body}
 use Rattle.records.proofs.Accepted.{read_out}
 use Rattle.records.specs.Index.{brought}
 use Rattle.units.specs.Along.{from, Stands, StandsAt, function_from, step_from, IsStep, brought_by, Locates}
 use Rattle.units.specs.declared.cursor.Cursor.{Cursor}
+use Rattle.units.specs.declared.locate.Site.{Site}
 use Rattle.units.proofs.Standing.{brought_kind, stands_start, stands_on}
 
 -- One piece at a time -------------------------------------------------------------------------------------------------------------------------
@@ -137,31 +139,33 @@ step_long : (kind len : ℕ) → len ≡ length_of one kind → (kind ≡ 5) ⊎
 step_long kind len l (inl q) = l ∙ ap (length_of one) q ∙ length_one 5
 step_long kind len l (inr q) = l ∙ ap (length_of one) q ∙ length_one 7
 
--- The tail at a cursor, as the code reads it: its kind byte, the length of that kind.
-module _ (f : List ℕ) (place : ℕ) (own : Cursor) (at k kind len : ℕ) (inside : at < length f) (is : kind ≡ get_or f at 0) (long : len ≡ length_of one kind) where
-  first : kind ≡ get_or (drop at f) 0 0
-  first = let e : at + 0 ≡ at = omega arith in rw (get_or-drop at f 0 0, e) is
+-- No whole record stands at the cursor.
+pub going_none : (f : List ℕ) (place : ℕ) (own : Cursor) (at k : ℕ)
+    → (length_of one (u8_at (drop at f) 0) ≡ 0) ⊎ (length (drop at f) < length_of one (u8_at (drop at f) 0))
+    → Going f place own at k → step_at one f place ≡ nowhere
+unfolding find_in u8_at
+going_none f place own at k cut g = g.same ∙ rw (pieces_fault one (drop at f) (none cut))
+  where
+    none : (length_of one (u8_at (drop at f) 0) ≡ 0) ⊎ (length (drop at f) < length_of one (u8_at (drop at f) 0)) → read one (drop at f) ≡ fault
+    none (inl e) = no_kind (drop at f) _ _ refl refl e
+    none (inr l) = no_body (drop at f) _ _ refl refl l
 
+-- The whole record at a cursor, as the code reads it: its kind byte, and its length.
+module _ (f : List ℕ) (place : ℕ) (own : Cursor) (at k kind len : ℕ) (is : kind ≡ get_or f at 0)
+    (some : 0 < len) (fits : len ≤ length (drop at f)) (told : len ≡ length_of one (u8_at (drop at f) 0)) where
   first_kind : u8_at (drop at f) 0 ≡ kind
   unfolding u8_at
-  first_kind = sym first
+  first_kind = let e : at + 0 ≡ at = omega arith in rw (get_or-drop at f 0 0, e) (sym is)
 
-  going_none : read one (drop at f) ≡ fault → Going f place own at k → step_at one f place ≡ nowhere
-  unfolding find_in
-  going_none e g = g.same ∙ rw (pieces_fault one (drop at f) e)
+  pub long : len ≡ length_of one kind
+  long = told ∙ ap (length_of one) first_kind
 
-  pub going_no_kind : len ≡ 0 → Going f place own at k → step_at one f place ≡ nowhere
-  going_no_kind e = going_none (no_kind (drop at f) kind len first long e)
-
-  pub going_no_body : length f - at < len → Going f place own at k → step_at one f place ≡ nowhere
-  going_no_body l = going_none (no_body (drop at f) kind len first long (simp length-drop (omega arith)))
-
-  module _ (some : len ≡ 0 → ⊥) (fits : len ≤ length f - at) where
+  module _ where
     reads : read one (drop at f) ≡ whole len (record_at one (drop at f))
-    reads = whole_kind (drop at f) kind len first long some (simp length-drop (omega arith))
+    reads = whole_read one (drop at f) (omega arith) (omega arith) ∙ ap (λ (n : ℕ). whole n (record_at one (drop at f))) (sym told)
 
     positive : 0 < length_of one (u8_at (drop at f) 0)
-    positive = rw first_kind (omega (arith, some, long))
+    positive = omega arith
 
     abbrev after : Rest
     after = rest one (drop len (drop at f))
@@ -226,19 +230,15 @@ module _ (f : List ℕ) (place : ℕ) (own : Cursor) (at k kind len : ℕ) (insi
               stands = stood;
             }
 
--- at the end of the file
-pub going_end : (f : List ℕ) (place : ℕ) (own : Cursor) (at k : ℕ) → length f ≤ at → Going f place own at k → step_at one f place ≡ nowhere
-unfolding find_in
-going_end f place own at k l g = g.same ∙ rw (ap (pieces one) (drop_of_length-le f {i = at} l) ∙ pieces_nil one)
-
--- the code's flags
-pub step_kind : (kind : ℕ) (r : Bool) → r ≡ (eqb kind 5 or eqb kind 7) → r ≡ true → (kind ≡ 5) ⊎ (kind ≡ 7)
-step_kind kind r e h = ⊎_elim (λ q. inl (eqb-true kind 5 q)) (λ q. inr (eqb-true kind 7 q)) (or_cases (eqb kind 5) (eqb kind 7) (sym e ∙ h))
-
-pub no_step_kind : (kind : ℕ) (r : Bool) → r ≡ (eqb kind 5 or eqb kind 7) → r ≡ false → (kind ≡ 5 → ⊥) × (kind ≡ 7 → ⊥)
+-- The code's answer at the place, by what the kind byte says.
+pub told_here : (f : List ℕ) (kind : ℕ) (b : Bool) (site : Site) (o : Option Site) (P : Option Site → Type 0)
+    → b ≡ (eqb kind 5 or eqb kind 7) → o ≡ then_some b site → ((kind ≡ 5) ⊎ (kind ≡ 7) → P (Some site)) → ((kind ≡ 5 → ⊥) → (kind ≡ 7 → ⊥) → P None) → P o
 unfolding pick
-no_step_kind kind r e h =
-    (λ q. let k : true ≡ false = rw q at (sym e ∙ h) in true≢false k, λ q. let k : true ≡ false = rw q at (sym e ∙ h) in true≢false k)
+told_here f kind b site o P e q found none = rw q (go b refl)
+  where
+    go : (t : Bool) → b ≡ t → P (then_some t site)
+    go true h = found (⊎_elim (λ p. inl (eqb-true kind 5 p)) (λ p. inr (eqb-true kind 7 p)) (or_cases (eqb kind 5) (eqb kind 7) (sym e ∙ h)))
+    go false h = none (λ p. let k : true ≡ false = rw p at (sym e ∙ h) in true≢false k) (λ p. let k : true ≡ false = rw p at (sym e ∙ h) in true≢false k)
 
 -- a record that brings a number has seven bytes, and a step's record four
 pub brought_room : (kind b len : ℕ) → b ≡ brought_by kind → len ≡ length_of one kind → 7 * b ≤ len
@@ -250,5 +250,5 @@ brought_room kind b len e l = rw (e, l) (go (eqb kind 3) refl (eqb kind 6) refl)
     go false p true q = omega (arith, ap (length_of one) (eqb-true kind 6 q) ∙ length_one 6)
     go false p false q = omega arith
 
-pub step_room : (kind len n at : ℕ) → len ≡ length_of one kind → (kind ≡ 5) ⊎ (kind ≡ 7) → at < n → len ≤ n - at → at + 4 ≤ n
-step_room kind len n at l h i k = omega (arith, step_long kind len l h)
+pub step_room : (kind len n at : ℕ) → len ≡ length_of one kind → (kind ≡ 5) ⊎ (kind ≡ 7) → at + len ≤ n → at + 4 ≤ n
+step_room kind len n at l h i = omega (arith, step_long kind len l h)

@@ -4,7 +4,7 @@ use mathlib.Core.Path.{◌≡◌, refl, sym, ap, ◌∙◌}
 use mathlib.Core.Logic.{◌⊎◌, inl, inr, ⊎_elim}
 use mathlib.Core.Bool.{Bool, true, false, true≢false}
 use mathlib.Core.List.{List, [], ◌∷◌, map}
-use Prim.Native.Nat.{ℕ, zero, suc, ◌+◌, ◌/◌, ◌%◌, ◌≤◌, ◌<◌}
+use Prim.Native.Nat.{ℕ, zero, suc, ◌+◌, ◌≤◌, ◌<◌}
 use native.Mathlib.Numerals.{add-one}
 use native.Mathlib.Omega.{arith}
 use lib.Dec.{eqb}
@@ -134,15 +134,8 @@ storages_yes words row after after' n s e h d l q =
     (q ∙ ap (λ (v : List ℕ). with_at v 0 s) e ∙ pack_with_at 4 (λ i. has i (storages_below words row n)) s l
     ∙ pack_ext 4 _ _ (λ i _. sym (or_is (eqb i s) (has i (storages_below words row n)))))
 
-pub storages_end : (words row after : List ℕ) (n : ℕ) → n ≤ 512 → 512 ≤ n → after ≡ pack 4 (λ i. has i (storages_below words row n)) → after ≡ pack 4 (λ i. has i (storages_below words row 512))
-storages_end words row after n a b e = let k : n ≡ 512 = omega arith in rw k at e
-
 pub four : (after : List ℕ) (p : ℕ → Bool) → after ≡ pack 4 p → length after ≡ 4
 four after p e = ap length e ∙ length_pack 4 p
-
-pub storage_part : (word s : ℕ) → s ≡ word / 65536 % 256 → s ≡ storage_of one word
-unfolding storage_of
-storage_part word s e = omega arith
 
 -- The storages of a set ---------------------------------------------------------------------------------------------------------------------
 

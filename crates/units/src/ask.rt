@@ -1,8 +1,9 @@
 // The common work of the queries: the step at a place with its rows, and the storages of a row of units.
-ghost use Rattle.std.specs.Prelude.{◌≡◌, ◌/◌, ◌%◌, ◌≤◌, length};
+ghost use Rattle.std.specs.Prelude.{◌≡◌, ◌≤◌, ◌<◌, length};
 ghost use Rattle.rows.specs.Row.{pack};
 ghost use Rattle.fields.specs.Pick.{pick, has};
-ghost use Rattle.units.specs.Uses.{effect};
+ghost use Rattle.fields.specs.Edition.{one};
+ghost use Rattle.units.specs.Uses.{effect, storage_of};
 ghost use Rattle.units.specs.Along.{step_from};
 ghost use Rattle.units.specs.Seek.{Seeks, Shows, storages_below};
 
@@ -71,8 +72,9 @@ pub fn rows_at(file: &[u8], place: usize, words: &mut [u32]) -> Result<Uses, Ref
 }
 
 // The storage that a unit's word names.
+#[tactic(auto, unfolding(crate::specs::Uses::storage_of))]
 fn storage_in(word: u32) -> usize
-    ensures { result ≡ word / 65536 % 256 }
+    ensures { (result ≡ storage_of one word) × (result < 256) }
 {
     (word / 65536 % 256) as usize
 }
@@ -83,12 +85,10 @@ pub fn storages_of(words: &[u32], units: &[u64], row: &mut [u64])
     ensures { row.new ≡ pack 4 (λ i. has i (storages_below words.now units.now 512)) }
 {
     rows::clear(row, 0, 4);
-    let mut n = 0;
-    while n < 512 {
+    for n in 0..512 {
         if rows::has(units, 0, n) {
             rows::insert(row, 0, storage_in(words[n]));
         }
-        n += 1;
     }
 }
 

@@ -10,14 +10,12 @@ pub struct Cursor {
 }
 
 // How many unit numbers a record of this kind brings.
+#[tactic(auto, unfolding(fields::specs::Pick::pick))]
 pub fn brings(kind: u8) -> usize
     ensures { result ≡ brought_by kind }
 {
-    if kind == 3 {
-        return 1;
+    match kind {
+        3 | 6 => 1,
+        _ => 0,
     }
-    if kind == 6 {
-        return 1;
-    }
-    0
 }

@@ -6,7 +6,7 @@ ghost use Rattle.records.specs.Check.{units, check};
 ghost use Rattle.units.specs.Along.{Locates, SoundBoth};
 
 use crate::cursor::{Cursor, brings};
-use fields::bytes::length_of;
+use fields::bytes::{tail_of, whole_record};
 
 // Where a step stands: the cursor behind its function's record, and the one at the step.
 #[derive(Clone, Copy)]
@@ -15,13 +15,12 @@ pub struct Site {
     pub here: Cursor,
 }
 
+// Kinds 5 and 7 begin a step.
+#[tactic(auto, unfolding(fields::specs::Pick::pick))]
 fn begins_step(kind: u8) -> bool
     ensures { result ≡ (eqb kind 5 or eqb kind 7) }
 {
-    if kind == 5 {
-        return true;
-    }
-    kind == 7
+    matches!(kind, 5 | 7)
 }
 
 // Walks the records from the front to the place asked. None where no step begins there.
@@ -30,28 +29,18 @@ pub fn locate(file: &[u8], place: usize) -> Option<Site>
     ensures { SoundBoth file.now result × ((us : List ℕ) → check one file.now ≡ units us → Locates file.now place result) }
 {
     let mut own = Cursor { at: 0, k: 0 };
-    let mut at = 0;
-    let mut k = 0;
-    while at < file.len() {
-        let kind = file[at];
-        let len = length_of(kind);
-        if len == 0 {
-            return None;
+    let mut here = own;
+    while let Some(len) = whole_record(tail_of(file, here.at)) {
+        let kind = file[here.at];
+        if here.at == place {
+            return begins_step(kind).then_some(Site { own, here });
         }
-        if file.len() - at < len {
-            return None;
-        }
-        if at == place {
-            if begins_step(kind) {
-                let here = Cursor { at, k };
-                return Some(Site { own, here });
-            }
-            return None;
-        }
-        k += brings(kind);
-        at += len;
+        here = Cursor {
+            at: here.at + len,
+            k: here.k + brings(kind),
+        };
         if kind == 2 {
-            own = Cursor { at, k };
+            own = here;
         }
     }
     None

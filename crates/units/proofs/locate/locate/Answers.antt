@@ -1,66 +1,73 @@
 -- What the definition finds from the front on is what it finds from the cursor on (`Going`), in the function behind the last function record.
 -- The measure is what is left of the file.
-use mathlib.Core.Path.{refl}
+use Rattle.std.specs.Prelude.{Option}
+use mathlib.Core.Path.{◌≡◌, refl}
+use mathlib.Core.List.{List}
+use Prim.Native.Nat.{ℕ, ◌+◌, ◌≤◌}
+use lib.ListN.{length}
 use native.Mathlib.Omega.{arith}
-use borrow.Author.Rules.{rules}
-use Rattle.records.proofs.Reading.{at_most}
-use Rattle.units.proofs.Finding.{going_start, going_no_kind, going_no_body, going_away, going_here, going_on, going_into, going_end, step_kind, no_step_kind, brought_room, step_room}
+use Rattle.fields.specs.Edition.{one}
+use Rattle.records.specs.Check.{units, check}
+use Rattle.units.specs.Along.{SoundBoth, Locates}
+use Rattle.units.specs.declared.locate.Site.{Site}
+use Rattle.units.proofs.Finding.{going_start, going_none, going_away, going_here, going_on, going_into, told_here, long, brought_room, step_room}
 use Rattle.units.proofs.locate.locate.Goals as goal
 
-pub loop-at-init : goal.loop-at-init
-loop-at-init c = (search rules, search rules, search rules, search rules, λ us ok. going_start _ us _ ok)
+pub loop-len-init : goal.loop-len-init
+loop-len-init c = record {
+  inside = omega arith;
+  own_sound = omega arith;
+  sound = omega arith;
+  going = λ us ok. going_start _ us _ ok;
+}
 
-pub returns-then-len-eq0 : goal.returns-then-len-eq0
-returns-then-len-eq0 c = (tt, λ us ok. going_no_kind _ _ _ _ _ _ _ c.loop-at-test.true refl c.length_of-len.ensures c.if-len-eq0.true (c.loop-at.invariant.4 us ok))
+pub returns-then-here-place : goal.returns-then-here-place
+returns-then-here-place c =
+    let l = c.loop-len in
+    let i = l.invariant in
+    let w = rw c.tail_of.ensures.0 at c.in-Some.ensures.whole in
+    let n = long c.args.file.now c.args.place l.own l.here.at l.here.k _ c.in-Some.len refl w.0 w.1 w.2 in
+    told_here c.args.file.now _ _ _ _
+    (λ (o : Option Site). SoundBoth c.args.file.now o × ((us : List ℕ) → check one c.args.file.now ≡ units us → Locates c.args.file.now c.args.place o))
+    c.begins_step.ensures c.then_some.ensures
+    (λ kind. (
+      (i.own_sound, i.sound, step_room _ _ _ l.here.at n kind (omega (arith, c.in-Some.ensures.whole.1, c.tail_of.ensures.1))),
+      λ us ok. going_here _ _ _ _ _ _ _ refl w.0 w.1 w.2 (i.going us ok) c.if-here-place.true kind,
+    ))
+    (λ a b. (tt, λ us ok. going_away _ _ _ _ _ _ _ refl w.0 w.1 w.2 (i.going us ok) c.if-here-place.true a b))
 
-pub returns-then-file-at : goal.returns-then-file-at
-returns-then-file-at c = (tt, λ us ok. going_no_body _ _ _ _ _ _ _ c.loop-at-test.true refl c.length_of-len.ensures c.if-file-at.true (c.loop-at.invariant.4 us ok))
+pub overflow_add-here-in-Some : goal.overflow_add-here-in-Some
+overflow_add-here-in-Some c =
+    let w = rw c.tail_of.ensures.0 at c.in-Some.ensures.whole in
+    let n = long c.args.file.now c.args.place c.loop-len.own c.loop-len.here.at c.loop-len.here.k _ c.in-Some.len refl w.0 w.1 w.2 in
+    omega (arith, brought_room _ _ _ c.brings.ensures n, w.1, c.tail_of.ensures.1, c.requires)
 
-pub returns-then-begins_step : goal.returns-then-begins_step
-returns-then-begins_step c =
-    let i = c.loop-at.invariant in
-    let kind = step_kind _ _ c.begins_step.ensures c.if-begins_step.true in
-    let room = step_room _ _ _ _ c.length_of-len.ensures kind c.loop-at-test.true c.if-file-at.false in (
-      (i.2, i.3, room),
-      λ us ok. going_here _ _ _ _ _ _ _ c.loop-at-test.true refl c.length_of-len.ensures c.if-len-eq0.false c.if-file-at.false (i.4 us ok) c.if-at-place.true kind,
-    )
+pub loop-len-preserved-then-kind-eq2 : goal.loop-len-preserved-then-kind-eq2
+loop-len-preserved-then-kind-eq2 c =
+    let l = c.loop-len in
+    let w = rw c.tail_of.ensures.0 at c.in-Some.ensures.whole in
+    let n = long c.args.file.now c.args.place l.own l.here.at l.here.k _ c.in-Some.len refl w.0 w.1 w.2 in
+    let room = brought_room _ _ _ c.brings.ensures n in
+    let inside : l.here.at + c.in-Some.len ≤ length c.args.file.now = omega (arith, c.in-Some.ensures.whole.1, c.tail_of.ensures.1) in record {
+      inside = inside;
+      own_sound = omega arith;
+      sound = omega arith;
+      going = λ us ok. going_into _ _ _ _ _ _ _ refl w.0 w.1 w.2 (l.invariant.going us ok) us ok c.if-here-place.false _ c.brings.ensures c.if-kind-eq2.true;
+    }
 
-pub returns-then-at-place : goal.returns-then-at-place
-returns-then-at-place c =
-    let i = c.loop-at.invariant in
-    let kind = no_step_kind _ _ c.begins_step.ensures c.if-begins_step.false in
-    (tt, λ us ok. going_away _ _ _ _ _ _ _ c.loop-at-test.true refl c.length_of-len.ensures c.if-len-eq0.false c.if-file-at.false (i.4 us ok) c.if-at-place.true kind.0 kind.1)
-
-pub overflow_add-k : goal.overflow_add-k
-overflow_add-k c = omega (arith, brought_room _ _ _ c.brings-k.ensures c.length_of-len.ensures)
-
-pub loop-at-smaller-then-kind-eq2 : goal.loop-at-smaller-then-kind-eq2
-loop-at-smaller-then-kind-eq2 c = omega (arith, at_most _ c.if-len-eq0.false)
-
-pub loop-at-preserved-then-kind-eq2 : goal.loop-at-preserved-then-kind-eq2
-loop-at-preserved-then-kind-eq2 c =
-    let i = c.loop-at.invariant in
-    let room = brought_room _ _ _ c.brings-k.ensures c.length_of-len.ensures in (
-      omega arith,
-      i.1,
-      omega arith,
-      omega arith,
-      λ us ok. going_into _ _ _ _ _ _ _ c.loop-at-test.true refl c.length_of-len.ensures c.if-len-eq0.false c.if-file-at.false (i.4 us ok) us ok c.if-at-place.false _ c.brings-k.ensures c.if-kind-eq2.true,
-    )
-
-pub loop-at-smaller : goal.loop-at-smaller
-loop-at-smaller c = omega (arith, at_most _ c.if-len-eq0.false)
-
-pub loop-at-preserved : goal.loop-at-preserved
-loop-at-preserved c =
-    let i = c.loop-at.invariant in
-    let room = brought_room _ _ _ c.brings-k.ensures c.length_of-len.ensures in (
-      omega arith,
-      i.1,
-      i.2,
-      omega arith,
-      λ us ok. going_on _ _ _ _ _ _ _ c.loop-at-test.true refl c.length_of-len.ensures c.if-len-eq0.false c.if-file-at.false (i.4 us ok) us ok c.if-at-place.false _ c.brings-k.ensures c.if-kind-eq2.false,
-    )
+pub loop-len-preserved : goal.loop-len-preserved
+loop-len-preserved c =
+    let l = c.loop-len in
+    let w = rw c.tail_of.ensures.0 at c.in-Some.ensures.whole in
+    let n = long c.args.file.now c.args.place l.own l.here.at l.here.k _ c.in-Some.len refl w.0 w.1 w.2 in
+    let room = brought_room _ _ _ c.brings.ensures n in record {
+      inside = omega (arith, c.in-Some.ensures.whole.1, c.tail_of.ensures.1);
+      own_sound = l.invariant.own_sound;
+      sound = omega arith;
+      going = λ us ok. going_on _ _ _ _ _ _ _ refl w.0 w.1 w.2 (l.invariant.going us ok) us ok c.if-here-place.false _ c.brings.ensures c.if-kind-eq2.false;
+    }
 
 pub returns : goal.returns
-returns c = (tt, λ us ok. going_end _ _ _ _ _ c.loop-at-test.false (c.loop-at.invariant.4 us ok))
+returns c =
+    let cut = rw c.tail_of.ensures.0 at c.in_default.ensures.cut in
+    (tt, λ us ok. going_none _ _ _ _ _ (cut.0 refl) (c.loop-len.invariant.going us ok))
