@@ -59,7 +59,11 @@ pub fn place_all(
 }
 
 // The placing of an accepted file, whose graph and copies stand in their rows. The application bytes below F are taken from the start.
-pub fn allocate(file: &[u8], relations: Relations, ledger: &mut Ledger) -> Result<Allocated, Refusal>
+pub fn allocate(
+    file: &[u8],
+    relations: Relations,
+    ledger: &mut Ledger,
+) -> Result<Allocated, Refusal>
     requires fit { (7 ≤ length file.now) × Fit file.now }
     requires header { header_fits (u16_at file.now 1) (u16_at file.now 3) (u16_at file.now 5) ≡ true }
     requires begun { (ledger.old.kin ≡ replicate 512 0) × (ledger.old.records ≡ replicate 2048 0) × (ledger.old.count ≡ 0) }
