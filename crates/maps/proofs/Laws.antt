@@ -1,17 +1,18 @@
 -- Laws of the maps. A search gives what is first, or there is none, since each step looks at one offset and hands on the rest;
 -- and taking sets the bits that it names and no other, since it writes those bytes alone. Assumes nothing.
 use Rattle.std.specs.Prelude.{Option, Some, None}
+use Rattle.std.specs.List.{list_all}
 use mathlib.Core.Path.{◌≡◌, refl, sym, ap, ◌∙◌, subst}
 use mathlib.Core.Logic.{◌⊎◌, inl, inr}
 use mathlib.Core.Bool.{Bool, true, false, not, ◌&&◌, ◌||◌}
-use mathlib.Core.List.{List, [], ◌∷◌}
+use mathlib.Core.List.{List, [], ◌∷◌, ◌++◌}
 use Prim.Native.Nat.{ℕ, zero, suc, ◌+◌, ◌-◌, ◌*◌, ◌/◌, ◌^◌, ◌≤◌, ◌<◌}
 use native.Mathlib.Omega.{arith}
 use native.Mathlib.Nat.{not-suc-le-zero, le_of_suc-le-suc}
 use native.Mathlib.Decide.{ℕ_discrete, dec_le, dec_lt}
 use lib.Dec.{T, eqb, ltb, leb, leb-suc-suc}
 use lib.Bits.{bit_or}
-use lib.ListN.{length, get_or, set, drop, length-set, length-drop, get_or-eq_default}
+use lib.ListN.{length, get_or, set, take, drop, replicate, length-set, length-drop, get_or-eq_default}
 use lib.Seq.{get_or-set_same, get_or-set_other, get_or-drop}
 use borrow.Author.Tests.{eqb-true, eq-eqb, ltb-true, ltb-false, lt-ltb, le-ltb, leb-true, le-leb}
 use Rattle.rows.specs.Row.{bit}
@@ -154,20 +155,16 @@ pub clear_bytes_in : (o n : ℕ) (m : List ℕ) → o + n ≤ length m → Clear
 unfolding clear_bytes
 clear_bytes_in o n m l c = rw (le-leb (o + n) (length m) l) (clear_in n o m l c)
 
--- The test itself, for code that looks at each byte.
-pub clear_bytes_yes : (o n : ℕ) (m : List ℕ) → o + n ≤ length m → Clear m n o → true ≡ clear_bytes o n m
-clear_bytes_yes o n m l c = go (clear_bytes o n m) (clear_bytes_in o n m l c)
-  where
-    go : (t : Bool) → T t → true ≡ t
-    go true h = refl
-    go false h = elim h [ ]
+-- The test itself, for code that asks each byte of the part.
+pub clears_all : (n : ℕ) (m : List ℕ) → n ≤ length m → clears n m ≡ list_all (λ b. eqb b 0) (take n m)
+unfolding clears
+clears_all zero m l = refl
+clears_all (suc n) [] l = absurd (not-suc-le-zero l)
+clears_all (suc n) (b ∷ m) l = ap (λ (t : Bool). eqb b 0 && t) (clears_all n m (le_of_suc-le-suc l))
 
-pub clear_bytes_no : (o n : ℕ) (m : List ℕ) → (o + n ≤ length m → Clear m n o → ⊥) → false ≡ clear_bytes o n m
-clear_bytes_no o n m h = go (clear_bytes o n m) (λ t. let x = clear_bytes_out o n m t in h x.0 x.1)
-  where
-    go : (t : Bool) → (T t → ⊥) → false ≡ t
-    go true f = absurd (f tt)
-    go false f = refl
+pub clear_bytes_all : (o n : ℕ) (m : List ℕ) → o + n ≤ length m → list_all (λ b. eqb b 0) (take n (drop o m)) ≡ clear_bytes o n m
+unfolding clear_bytes
+clear_bytes_all o n m l = rw (le-leb (o + n) (length m) l) (sym (clears_all n (drop o m) (omega (arith, length-drop o m))))
 
 pub clear_bit_out : (o k : ℕ) (m : List ℕ) → T (clear_bit o k m) → (o < length m) × (bit (get_or m o 0) k ≡ false)
 unfolding clear_bit
@@ -291,26 +288,15 @@ fill_out zero (suc n) (b ∷ m) (suc i) h = fill_out zero n m i (λ p q. h (omeg
 fill_out (suc o) n (b ∷ m) zero h = refl
 fill_out (suc o) n (b ∷ m) (suc i) h = fill_out o n m i (λ p q. h (omega arith) (omega arith))
 
--- A loop that fills, one byte a turn.
-pub fill_none : (o : ℕ) (m : List ℕ) → m ≡ fill o 0 m
+-- What std's `fill` of a part writes.
+pub fill_part : (o n : ℕ) (m : List ℕ) → o + n ≤ length m → take o m ++ (replicate n 255 ++ drop n (drop o m)) ≡ fill o n m
 unfolding fill
-fill_none zero [] = refl
-fill_none (suc o) [] = refl
-fill_none zero (b ∷ m) = refl
-fill_none (suc o) (b ∷ m) = ap {B = List ℕ} (λ r. b ∷ r) (fill_none o m)
-
-pub fill_more : (o k : ℕ) (m : List ℕ) → o + k < length m → set (fill o k m) (o + k) 255 ≡ fill o (k + 1) m
-unfolding fill
-fill_more o k m l = let e : k + 1 ≡ suc k = omega arith in rw e (go o k (o + k) m refl l)
-  where
-    go : (o k i : ℕ) (m : List ℕ) → i ≡ o + k → i < length m → set (fill o k m) i 255 ≡ fill o (suc k) m
-    go o k i [] e l = absurd (not-suc-le-zero l)
-    go zero zero zero (b ∷ m) e l = ap {B = List ℕ} (λ r. 255 ∷ r) (fill_none zero m)
-    go zero zero (suc i) (b ∷ m) e l = absurd (omega arith)
-    go zero (suc k) zero (b ∷ m) e l = absurd (omega arith)
-    go zero (suc k) (suc i) (b ∷ m) e l = ap {B = List ℕ} (λ r. 255 ∷ r) (go zero k i m (omega arith) (le_of_suc-le-suc l))
-    go (suc o) k zero (b ∷ m) e l = absurd (omega arith)
-    go (suc o) k (suc i) (b ∷ m) e l = ap {B = List ℕ} (λ r. b ∷ r) (go o k i m (omega arith) (le_of_suc-le-suc l))
+fill_part zero zero [] l = refl
+fill_part zero zero (b ∷ m) l = refl
+fill_part zero (suc n) [] l = absurd (omega arith)
+fill_part zero (suc n) (b ∷ m) l = ap {B = List ℕ} (λ r. 255 ∷ r) (fill_part zero n m (omega arith))
+fill_part (suc o) n [] l = absurd (omega arith)
+fill_part (suc o) n (b ∷ m) l = ap {B = List ℕ} (λ r. b ∷ r) (fill_part o n m (omega arith))
 
 -- ---- Bits of taken bytes
 

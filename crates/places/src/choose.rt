@@ -8,35 +8,26 @@ ghost use Rattle.places.specs.Memory.{clear_room, Solid};
 ghost use Rattle.places.specs.Legal.{Small, FixedSmall};
 ghost use Rattle.places.specs.Place.{Given, fitted, name_bit, name_bytes, work_bit, app_bit, choose_bit, work_bytes, app_bytes, choose_bytes, choose_free, choose_fixed, choose};
 
-use crate::memory::{Floor, is_clear};
+use crate::memory::{Floor, Memory, is_clear};
 use maps::{first_clear, high_bit};
 use records::Refusal;
 use storages::{
     Placement, Storage, allows_region, code_of, is_alone, kind_matches, room_of, takes_bit,
 };
 
-// A place that was found, as a number of two bytes.
-fn narrow(n: usize) -> u16
-    requires { n < 65536 }
-    ensures { result ≡ n }
-{
-    n as u16
-}
-
 // A found bit over 7 and a found work offset over 511 fit no placement.
+#[tactic(auto, unfolding(crate::specs::Place::fitted, fields::specs::Pick::pick))]
 fn fit(id: u16, offset: usize, bit: usize, p: Placement) -> Result<Placement, Refusal>
     ensures { result ≡ fitted id offset bit p }
 {
-    if 7 < bit {
-        return Err(Refusal::Misfit(id as usize));
-    }
-    if 511 < offset {
+    if 7 < bit || 511 < offset {
         return Err(Refusal::Misfit(id as usize));
     }
     Ok(p)
 }
 
 // A bit that was found in the work map takes a shadow name where shadow is allowed.
+#[tactic(auto, unfolding(fields::specs::Pick::pick))]
 fn name_bit(s: Storage, found: Option<(usize, usize)>) -> Result<Placement, Refusal>
     requires { BitIn 512 found }
     ensures { result ≡ name_bit s found }
@@ -44,28 +35,19 @@ fn name_bit(s: Storage, found: Option<(usize, usize)>) -> Result<Placement, Refu
     match found {
         None => Err(Refusal::WorkFull(1)),
         Some((offset, bit)) => {
-            let o = narrow(offset);
-            let b = narrow(bit);
-            if allows_region(s, 5) {
-                fit(
-                    s.id,
-                    offset,
-                    bit,
-                    Placement::ShadowStackBit { offset: o, bit: b },
-                )
+            let (o, b) = (offset as u16, bit as u16);
+            let place = if allows_region(s, 5) {
+                Placement::ShadowStackBit { offset: o, bit: b }
             } else {
-                fit(
-                    s.id,
-                    offset,
-                    bit,
-                    Placement::WorkRamBit { offset: o, bit: b },
-                )
-            }
+                Placement::WorkRamBit { offset: o, bit: b }
+            };
+            fit(s.id, offset, bit, place)
         }
     }
 }
 
 // A window that was found in the work map, named likewise.
+#[tactic(auto, unfolding(fields::specs::Pick::pick))]
 fn name_bytes(s: Storage, found: Option<usize>) -> Result<Placement, Refusal>
     requires { FoundIn 512 found }
     ensures { result ≡ name_bytes s found }
@@ -73,24 +55,141 @@ fn name_bytes(s: Storage, found: Option<usize>) -> Result<Placement, Refusal>
     match found {
         None => Err(Refusal::WorkFull(s.len as usize)),
         Some(offset) => {
-            let o = narrow(offset);
-            if allows_region(s, 5) {
-                fit(s.id, offset, 0, Placement::ShadowStack { offset: o })
+            let o = offset as u16;
+            let place = if allows_region(s, 5) {
+                Placement::ShadowStack { offset: o }
             } else {
-                fit(s.id, offset, 0, Placement::WorkRam { offset: o })
-            }
+                Placement::WorkRam { offset: o }
+            };
+            fit(s.id, offset, 0, place)
         }
     }
 }
 
 // Does a storage allow the work map, under either name?
+#[tactic(auto, unfolding(fields::specs::Pick::pick))]
 fn allows_work(s: Storage) -> bool
     ensures { result ≡ (allows s 5 or allows s 6) }
 {
-    if allows_region(s, 5) {
-        return true;
+    allows_region(s, 5) || allows_region(s, 6)
+}
+
+// Is the storage a Carry that may sit in the carry flag?
+#[tactic(auto, unfolding(fields::specs::Pick::pick))]
+fn sits_in_flag(s: Storage) -> bool
+    ensures { result ≡ (eqb s.kind a_carry and allows s carry_flag) }
+{
+    s.kind == 3 && allows_region(s, 1)
+}
+
+impl Memory<'_> {
+    // A bit in the work map.
+    #[tactic(auto, using(crate::proofs::Choosing::bit_below), unfolding(crate::specs::Place::work_bit, fields::specs::Pick::pick))]
+    fn work_bit(&self, s: Storage) -> Result<Placement, Refusal>
+        ensures { result ≡ work_bit s self.now.work.now }
+    {
+        if !allows_work(s) {
+            return Err(Refusal::NoPlace(s.id as usize));
+        }
+        name_bit(s, high_bit(self.work, 0, self.work.len()))
     }
-    allows_region(s, 6)
+
+    // A bit: application RAM first, whether or not the storage must be direct.
+    #[tactic(auto, unfolding(crate::specs::Place::choose_bit, fields::specs::Pick::pick))]
+    pub fn choose_bit(&self, s: Storage) -> Result<Placement, Refusal>
+        ensures { (g : Given) → g.lo ≡ 0 → g.hi ≡ length self.now.app.now
+            → result ≡ choose_bit g s (record { app = self.now.app.now; wrk = self.now.work.now }) }
+    {
+        if !allows_region(s, 2) {
+            return self.work_bit(s);
+        }
+        match high_bit(self.app, 0, self.app.len()) {
+            None => self.work_bit(s),
+            Some((offset, bit)) => {
+                let (o, b) = (offset as u16, bit as u16);
+                fit(
+                    s.id,
+                    0,
+                    bit,
+                    Placement::ApplicationBit { offset: o, bit: b },
+                )
+            }
+        }
+    }
+
+    // Bytes after application RAM: Flash, then the work map.
+    #[tactic(auto, using(crate::proofs::Choosing::found_below), unfolding(crate::specs::Place::work_bytes, fields::specs::Pick::pick))]
+    fn work_bytes(&self, s: Storage) -> Result<Placement, Refusal>
+        ensures { result ≡ work_bytes s self.now.work.now }
+    {
+        if allows_region(s, 7) {
+            return Ok(Placement::Flash);
+        }
+        if !allows_work(s) {
+            return Err(Refusal::NoPlace(s.id as usize));
+        }
+        name_bytes(s, first_clear(self.work, self.floor.work, s.len as usize))
+    }
+
+    // Bytes: the first clear window of application RAM, where that is allowed; without one a direct storage is refused, and others try on.
+    #[tactic(auto, unfolding(crate::specs::Place::choose_bytes, fields::specs::Pick::pick))]
+    pub fn choose_bytes(&self, s: Storage) -> Result<Placement, Refusal>
+        ensures { result ≡ choose_bytes s (record { app = self.now.app.now; wrk = self.now.work.now }) }
+    {
+        if !allows_region(s, 2) {
+            return self.work_bytes(s);
+        }
+        match first_clear(self.app, self.floor.app, s.len as usize) {
+            Some(offset) => Ok(Placement::ApplicationRam {
+                offset: offset as u16,
+            }),
+            None if s.direct => Err(Refusal::ApplicationFull(s.len as usize)),
+            None => self.work_bytes(s),
+        }
+    }
+
+    // A storage that is not fixed.
+    #[tactic(auto, unfolding(crate::specs::Place::choose_free, fields::specs::Pick::pick))]
+    pub fn choose_free(&self, s: Storage) -> Result<Placement, Refusal>
+        ensures { (g : Given) → g.lo ≡ 0 → g.hi ≡ length self.now.app.now
+            → result ≡ choose_free g s (record { app = self.now.app.now; wrk = self.now.work.now }) }
+    {
+        if sits_in_flag(s) {
+            Ok(Placement::CarryFlag)
+        } else if takes_bit(s.kind) {
+            self.choose_bit(s)
+        } else {
+            self.choose_bytes(s)
+        }
+    }
+
+    // A storage at its fixed place, whose room must be clear and large enough.
+    #[tactic(auto, unfolding(crate::specs::Place::choose_fixed, fields::specs::Pick::pick))]
+    pub fn choose_fixed(&self, s: Storage, p: Placement) -> Result<Placement, Refusal>
+        requires { Small (room s.len p) }
+        ensures { result ≡ choose_fixed s p (record { app = self.now.app.now; wrk = self.now.work.now }) }
+    {
+        if !kind_matches(s.kind, s.len, code_of(p)) {
+            Err(Refusal::BadFixed(s.id as usize))
+        } else if self.is_clear(room_of(s.len, p)) && is_alone(s.len, p) {
+            Ok(p)
+        } else {
+            Err(Refusal::Conflict(s.id as usize))
+        }
+    }
+
+    // A place of its own for a storage.
+    #[tactic(auto, unfolding(crate::specs::Place::choose))]
+    pub fn choose(&self, s: Storage) -> Result<Placement, Refusal>
+        requires { FixedSmall s.len s.fixed }
+        ensures { (g : Given) → g.lo ≡ 0 → g.hi ≡ length self.now.app.now
+            → result ≡ choose g s (record { app = self.now.app.now; wrk = self.now.work.now }) }
+    {
+        match s.fixed {
+            None => self.choose_free(s),
+            Some(p) => self.choose_fixed(s, p),
+        }
+    }
 }
 
 // A bit in the work map.
@@ -105,6 +204,7 @@ fn work_bit(s: Storage, work: &[u8]) -> Result<Placement, Refusal>
 }
 
 // The bit that was found in application RAM, or else one in the work map.
+#[tactic(auto, unfolding(fields::specs::Pick::pick))]
 fn app_bit(s: Storage, found: Option<(usize, usize)>, work: &[u8]) -> Result<Placement, Refusal>
     requires { BitIn 256 found × (length work.now ≤ 512) }
     ensures { result ≡ app_bit s found work.now }
@@ -112,8 +212,8 @@ fn app_bit(s: Storage, found: Option<(usize, usize)>, work: &[u8]) -> Result<Pla
     match found {
         None => work_bit(s, work),
         Some((offset, bit)) => {
-            let o = narrow(offset);
-            let b = narrow(bit);
+            let o = offset as u16;
+            let b = bit as u16;
             fit(
                 s.id,
                 0,
@@ -156,6 +256,7 @@ fn work_bytes(s: Storage, work: &[u8], low: usize) -> Result<Placement, Refusal>
 }
 
 // The window that was found in application RAM; without one a direct storage is refused, and others try on.
+#[tactic(auto, unfolding(fields::specs::Pick::pick))]
 fn app_bytes(
     s: Storage,
     found: Option<usize>,
@@ -167,7 +268,7 @@ fn app_bytes(
 {
     match found {
         Some(offset) => {
-            let o = narrow(offset);
+            let o = offset as u16;
             Ok(Placement::ApplicationRam { offset: o })
         }
         None => {
@@ -189,16 +290,6 @@ pub fn choose_bytes(s: Storage, app: &[u8], work: &[u8], floor: Floor) -> Result
         return app_bytes(s, found, work, floor.work);
     }
     work_bytes(s, work, floor.work)
-}
-
-// Is the storage a Carry that may sit in the carry flag?
-fn sits_in_flag(s: Storage) -> bool
-    ensures { result ≡ (eqb s.kind a_carry and allows s carry_flag) }
-{
-    if s.kind != 3 {
-        return false;
-    }
-    allows_region(s, 1)
 }
 
 // A storage that is not fixed.

@@ -1,6 +1,6 @@
 // Room in the two memories: whether it is clear, the taking of it, and how far up all is taken.
-ghost use Rattle.std.specs.Prelude.{◌≡◌, length};
-ghost use Rattle.places.specs.Memory.{clear_room, reserve, Solid};
+ghost use Rattle.std.specs.Prelude.{◌≡◌, ◌≤◌, length};
+ghost use Rattle.places.specs.Memory.{map_of, clear_room, reserve, Solid};
 ghost use Rattle.places.specs.Legal.{Small, Inside};
 
 use maps::{clear_bit, clear_bytes, next_clear, take_bit, take_bytes};
@@ -13,7 +13,93 @@ pub struct Floor {
     pub work: usize,
 }
 
+// The two memories as far as they are taken: the occupancy maps of application and work RAM, and the floor of each.
+#[derive(Drop)]
+pub struct Memory<'a> {
+    pub app: &'a mut [u8],
+    pub work: &'a mut [u8],
+    pub floor: Floor,
+    pub ghost app_short: { length app.now ≤ 256 },
+    pub ghost work_short: { length work.now ≤ 512 },
+    pub ghost solid: { Solid floor app.now work.now },
+}
+
+impl Memory<'_> {
+    // The map of a space.
+    fn map(&self, space: Space) -> &[u8]
+        ensures { result.now ≡ map_of space (record { app = self.now.app.now; wrk = self.now.work.now }) }
+    {
+        match space {
+            Space::App => self.app,
+            Space::Work => self.work,
+        }
+    }
+
+    // Is the room inside its memory, and clear?
+    #[tactic(auto, unfolding(crate::specs::Memory::clear_room))]
+    pub fn is_clear(&self, room: Room) -> bool
+        requires { Small room }
+        ensures { result ≡ clear_room (record { app = self.now.app.now; wrk = self.now.work.now }) room }
+    {
+        match room {
+            Room::Nowhere => true,
+            Room::Bytes {
+                space,
+                offset,
+                count,
+            } => clear_bytes(self.map(space), offset as usize, count as usize),
+            Room::OneBit { space, offset, bit } => clear_bit(
+                self.map(space),
+                offset as usize,
+                bit as usize,
+            ),
+        }
+    }
+
+    // Takes the room.
+    #[tactic(auto, using(maps::proofs::Laws::fill_length, maps::proofs::Laws::fill_clear, maps::proofs::Laws::set_bit_length, maps::proofs::Laws::set_bit_clear), unfolding(crate::specs::Memory::reserve))]
+    pub fn take(&mut self, room: Room)
+        requires { Inside (length self.old.app.now) (length self.old.work.now) room }
+        ensures { (record { app = self.new.app.now; wrk = self.new.work.now }) ≡ reserve room (record { app = self.old.app.now; wrk = self.old.work.now }) }
+    {
+        match room {
+            Room::Nowhere => {}
+            Room::Bytes {
+                space,
+                offset,
+                count,
+            } => match space {
+                Space::App => take_bytes(self.app, offset as usize, count as usize),
+                Space::Work => take_bytes(self.work, offset as usize, count as usize),
+            }
+            Room::OneBit { space, offset, bit } => match space {
+                Space::App => take_bit(self.app, offset as usize, bit as usize),
+                Space::Work => take_bit(self.work, offset as usize, bit as usize),
+            }
+        }
+    }
+
+    // The floor up to the first byte that is clear now. It only reads, so that its caller knows the maps to stay.
+    #[tactic(auto, using(maps::proofs::Laws::taken_inside, maps::proofs::Laws::taken_next))]
+    fn raised(&self) -> Floor
+        ensures { Solid result self.now.app.now self.now.work.now }
+    {
+        Floor {
+            app: next_clear(self.app, self.floor.app),
+            work: next_clear(self.work, self.floor.work),
+        }
+    }
+
+    // Raises the floor up to the first byte that is clear now.
+    pub fn raise(&mut self)
+        ensures { (self.new.app.now ≡ self.old.app.now) × (self.new.work.now ≡ self.old.work.now) }
+    {
+        self.floor = self.raised();
+    }
+}
+
 // Is the room inside its memory, and clear?
+#[tactic(auto, unfolding(crate::specs::Memory::clear_room))]
 pub fn is_clear(app: &[u8], work: &[u8], room: Room) -> bool
     requires { Small room }
     ensures { result ≡ clear_room (record { app = app.now; wrk = work.now }) room }
@@ -21,21 +107,30 @@ pub fn is_clear(app: &[u8], work: &[u8], room: Room) -> bool
     match room {
         Room::Nowhere => true,
         Room::Bytes {
-            space,
+            space: Space::App,
             offset,
             count,
-        } => match space {
-            Space::App => clear_bytes(app, offset as usize, count as usize),
-            Space::Work => clear_bytes(work, offset as usize, count as usize),
-        },
-        Room::OneBit { space, offset, bit } => match space {
-            Space::App => clear_bit(app, offset as usize, bit as usize),
-            Space::Work => clear_bit(work, offset as usize, bit as usize),
-        },
+        } => clear_bytes(app, offset as usize, count as usize),
+        Room::Bytes {
+            space: Space::Work,
+            offset,
+            count,
+        } => clear_bytes(work, offset as usize, count as usize),
+        Room::OneBit {
+            space: Space::App,
+            offset,
+            bit,
+        } => clear_bit(app, offset as usize, bit as usize),
+        Room::OneBit {
+            space: Space::Work,
+            offset,
+            bit,
+        } => clear_bit(work, offset as usize, bit as usize),
     }
 }
 
 // Takes the room.
+#[tactic(auto, unfolding(crate::specs::Memory::reserve))]
 pub fn take_room(app: &mut [u8], work: &mut [u8], room: Room)
     requires { Inside (length app.old) (length work.old) room }
     ensures { (record { app = app.new; wrk = work.new }) ≡ reserve room (record { app = app.old; wrk = work.old }) }
@@ -43,21 +138,30 @@ pub fn take_room(app: &mut [u8], work: &mut [u8], room: Room)
     match room {
         Room::Nowhere => {}
         Room::Bytes {
-            space,
+            space: Space::App,
             offset,
             count,
-        } => match space {
-            Space::App => take_bytes(app, offset as usize, count as usize),
-            Space::Work => take_bytes(work, offset as usize, count as usize),
-        },
-        Room::OneBit { space, offset, bit } => match space {
-            Space::App => take_bit(app, offset as usize, bit as usize),
-            Space::Work => take_bit(work, offset as usize, bit as usize),
-        },
+        } => take_bytes(app, offset as usize, count as usize),
+        Room::Bytes {
+            space: Space::Work,
+            offset,
+            count,
+        } => take_bytes(work, offset as usize, count as usize),
+        Room::OneBit {
+            space: Space::App,
+            offset,
+            bit,
+        } => take_bit(app, offset as usize, bit as usize),
+        Room::OneBit {
+            space: Space::Work,
+            offset,
+            bit,
+        } => take_bit(work, offset as usize, bit as usize),
     }
 }
 
 // The floor up to the first byte that is clear now.
+#[tactic(auto, using(maps::proofs::Laws::taken_inside, maps::proofs::Laws::taken_next))]
 pub fn raise(floor: Floor, app: &[u8], work: &[u8]) -> Floor
     requires { Solid floor app.now work.now }
     ensures { Solid result app.now work.now }

@@ -29,6 +29,7 @@ pub enum Placement {
 }
 
 // A storage record. One without a fixed place is free to be placed.
+// Its kind stays the record's number, by which slots are compared: the laws of placing speak of it.
 #[derive(Clone, Copy)]
 pub struct Storage {
     pub id: u16,
@@ -70,19 +71,16 @@ pub fn code_of(p: Placement) -> u8
     match p {
         Placement::Accumulator => 1,
         Placement::CarryFlag => 2,
-        Placement::ApplicationRam { offset: _ } => 3,
-        Placement::ApplicationBit { offset: _, bit: _ } => 4,
-        Placement::ShadowStack { offset: _ } => 5,
-        Placement::ShadowStackBit { offset: _, bit: _ } => 6,
-        Placement::WorkRamBit { offset: _, bit: _ } => 7,
+        Placement::ApplicationRam { .. } => 3,
+        Placement::ApplicationBit { .. } => 4,
+        Placement::ShadowStack { .. } => 5,
+        Placement::ShadowStackBit { .. } => 6,
+        Placement::WorkRamBit { .. } => 7,
         Placement::SpecialRegister(_) => 8,
-        Placement::IndirectRegister {
-            bank: _,
-            register: _,
-        } => 9,
-        Placement::WorkRam { offset: _ } => 10,
+        Placement::IndirectRegister { .. } => 9,
+        Placement::WorkRam { .. } => 10,
         Placement::Flash => 11,
-        Placement::XRam { bank: _, offset: _ } => 12,
+        Placement::XRam { .. } => 12,
     }
 }
 
@@ -91,18 +89,15 @@ pub fn a_of(p: Placement) -> u16
     ensures { result ≡ a_of p }
 {
     match p {
-        Placement::Accumulator => 0,
-        Placement::CarryFlag => 0,
-        Placement::ApplicationRam { offset } => offset,
-        Placement::ApplicationBit { offset, bit: _ } => offset,
-        Placement::ShadowStack { offset } => offset,
-        Placement::ShadowStackBit { offset, bit: _ } => offset,
-        Placement::WorkRamBit { offset, bit: _ } => offset,
-        Placement::SpecialRegister(n) => n,
-        Placement::IndirectRegister { bank, register: _ } => bank,
-        Placement::WorkRam { offset } => offset,
-        Placement::Flash => 0,
-        Placement::XRam { bank, offset: _ } => bank,
+        Placement::Accumulator | Placement::CarryFlag | Placement::Flash => 0,
+        Placement::SpecialRegister(register) => register,
+        Placement::IndirectRegister { bank, .. } | Placement::XRam { bank, .. } => bank,
+        Placement::ApplicationRam { offset }
+        | Placement::ApplicationBit { offset, .. }
+        | Placement::ShadowStack { offset }
+        | Placement::ShadowStackBit { offset, .. }
+        | Placement::WorkRamBit { offset, .. }
+        | Placement::WorkRam { offset } => offset,
     }
 }
 
@@ -111,18 +106,12 @@ pub fn b_of(p: Placement) -> u16
     ensures { result ≡ b_of p }
 {
     match p {
-        Placement::Accumulator => 0,
-        Placement::CarryFlag => 0,
-        Placement::ApplicationRam { offset: _ } => 0,
-        Placement::ApplicationBit { offset: _, bit } => bit,
-        Placement::ShadowStack { offset: _ } => 0,
-        Placement::ShadowStackBit { offset: _, bit } => bit,
-        Placement::WorkRamBit { offset: _, bit } => bit,
-        Placement::SpecialRegister(_) => 0,
-        Placement::IndirectRegister { bank: _, register } => register,
-        Placement::WorkRam { offset: _ } => 0,
-        Placement::Flash => 0,
-        Placement::XRam { bank: _, offset } => offset,
+        Placement::ApplicationBit { bit, .. }
+        | Placement::ShadowStackBit { bit, .. }
+        | Placement::WorkRamBit { bit, .. } => bit,
+        Placement::IndirectRegister { register, .. } => register,
+        Placement::XRam { offset, .. } => offset,
+        _ => 0,
     }
 }
 
@@ -133,23 +122,18 @@ pub fn region_of(p: Placement) -> u16
     match p {
         Placement::Accumulator => 0,
         Placement::CarryFlag => 1,
-        Placement::ApplicationRam { offset: _ } => 2,
-        Placement::ApplicationBit { offset: _, bit: _ } => 2,
-        Placement::ShadowStack { offset: _ } => 5,
-        Placement::ShadowStackBit { offset: _, bit: _ } => 5,
-        Placement::WorkRamBit { offset: _, bit: _ } => 6,
+        Placement::ApplicationRam { .. } | Placement::ApplicationBit { .. } => 2,
         Placement::SpecialRegister(_) => 3,
-        Placement::IndirectRegister {
-            bank: _,
-            register: _,
-        } => 4,
-        Placement::WorkRam { offset: _ } => 6,
+        Placement::IndirectRegister { .. } => 4,
+        Placement::ShadowStack { .. } | Placement::ShadowStackBit { .. } => 5,
+        Placement::WorkRamBit { .. } | Placement::WorkRam { .. } => 6,
         Placement::Flash => 7,
-        Placement::XRam { bank: _, offset: _ } => 8,
+        Placement::XRam { .. } => 8,
     }
 }
 
 // What a fixed code and its numbers say.
+#[tactic(auto, unfolding(crate::specs::Placement::fixed_at, fields::specs::Pick::pick))]
 pub fn fixed_at(code: u8, a: u16, b: u16) -> Option<Placement>
     ensures { result ≡ fixed_at code a b }
 {
@@ -173,44 +157,33 @@ pub fn fixed_at(code: u8, a: u16, b: u16) -> Option<Placement>
     }
 }
 
-// Whole bytes of a space.
-fn bytes_in(space: Space, offset: u16, count: u16) -> Room
-    ensures { result ≡ Room.Bytes space offset count }
-{
-    Room::Bytes {
-        space,
-        offset,
-        count,
-    }
-}
-
-// One bit of a space.
-fn bit_in(space: Space, offset: u16, bit: u16) -> Room
-    ensures { result ≡ Room.OneBit space offset bit }
-{
-    Room::OneBit { space, offset, bit }
-}
-
-// The room that a placement takes for n bytes.
+// The room that a placement takes for n bytes: shadow and work places lie in one memory, and what is no RAM takes none.
 pub fn room_of(n: u16, p: Placement) -> Room
     ensures { result ≡ room n p }
 {
     match p {
-        Placement::Accumulator => Room::Nowhere,
-        Placement::CarryFlag => Room::Nowhere,
-        Placement::ApplicationRam { offset } => bytes_in(Space::App, offset, n),
-        Placement::ApplicationBit { offset, bit } => bit_in(Space::App, offset, bit),
-        Placement::ShadowStack { offset } => bytes_in(Space::Work, offset, n),
-        Placement::ShadowStackBit { offset, bit } => bit_in(Space::Work, offset, bit),
-        Placement::WorkRamBit { offset, bit } => bit_in(Space::Work, offset, bit),
-        Placement::SpecialRegister(_) => Room::Nowhere,
-        Placement::IndirectRegister {
-            bank: _,
-            register: _,
-        } => Room::Nowhere,
-        Placement::WorkRam { offset } => bytes_in(Space::Work, offset, n),
-        Placement::Flash => Room::Nowhere,
-        Placement::XRam { bank: _, offset: _ } => Room::Nowhere,
+        Placement::ApplicationRam { offset } => Room::Bytes {
+            space: Space::App,
+            offset,
+            count: n,
+        },
+        Placement::ApplicationBit { offset, bit } => Room::OneBit {
+            space: Space::App,
+            offset,
+            bit,
+        },
+        Placement::ShadowStack { offset } | Placement::WorkRam { offset } => Room::Bytes {
+            space: Space::Work,
+            offset,
+            count: n,
+        },
+        Placement::ShadowStackBit { offset, bit } | Placement::WorkRamBit { offset, bit } =>
+            Room::OneBit {
+                space: Space::Work,
+                offset,
+                bit,
+            },
+        _ => Room::Nowhere,
     }
 }
 
@@ -219,25 +192,13 @@ pub fn is_alone(n: u16, p: Placement) -> bool
     ensures { result ≡ alone n p }
 {
     match p {
-        Placement::Accumulator => true,
-        Placement::CarryFlag => true,
-        Placement::ApplicationRam { offset: _ } => true,
-        Placement::ApplicationBit { offset: _, bit: _ } => true,
-        Placement::ShadowStack { offset: _ } => true,
-        Placement::ShadowStackBit { offset: _, bit: _ } => true,
-        Placement::WorkRamBit { offset: _, bit: _ } => true,
-        Placement::SpecialRegister(_) => true,
-        Placement::IndirectRegister {
-            bank: _,
-            register: _,
-        } => true,
-        Placement::WorkRam { offset: _ } => true,
-        Placement::Flash => true,
-        Placement::XRam { bank: _, offset: _ } => n == 1,
+        Placement::XRam { .. } => n == 1,
+        _ => true,
     }
 }
 
 // Does a storage allow a region?
+#[tactic(auto, unfolding(crate::specs::Storage::allows, rows::specs::Row::bit, rows::specs::Row::digit))]
 pub fn allows_region(s: Storage, region: u16) -> bool
     requires { region < 16 }
     ensures { result ≡ allows s region }
@@ -246,91 +207,65 @@ pub fn allows_region(s: Storage, region: u16) -> bool
 }
 
 // Does a kind take one bit?
+#[tactic(auto, unfolding(crate::specs::Storage::is_bit, fields::specs::Pick::pick))]
 pub fn takes_bit(kind: u8) -> bool
     ensures { result ≡ is_bit kind }
 {
-    if kind == 0 {
-        return true;
-    }
-    kind == 3
+    matches!(kind, 0 | 3)
 }
 
 // May a storage share a slot?
+#[tactic(auto, unfolding(crate::specs::Storage::tries, fields::specs::Pick::pick))]
 pub fn tries_slots(s: Storage) -> bool
     ensures { result ≡ tries s }
 {
-    match s.fixed {
-        Some(_) => false,
-        None => {
-            if s.owner == 65535 {
-                return false;
-            }
-            s.kind != 3
-        }
-    }
+    s.fixed.is_none() && s.owner != 65535 && s.kind != 3
 }
 
 // Does a code hold one bit?
+#[tactic(auto, unfolding(crate::specs::Storage::bit_code, fields::specs::Pick::pick))]
 fn is_bit_code(code: u8) -> bool
     ensures { result ≡ bit_code code }
 {
-    if code == 2 {
-        return true;
-    }
-    if code == 4 {
-        return true;
-    }
-    if code == 6 {
-        return true;
-    }
-    code == 7
+    matches!(code, 2 | 4 | 6 | 7)
 }
 
 // Does a code hold a stretch of bytes?
+#[tactic(auto, unfolding(crate::specs::Storage::bytes_code, fields::specs::Pick::pick))]
 fn is_bytes_code(code: u8) -> bool
     ensures { result ≡ bytes_code code }
 {
-    if code == 3 {
-        return true;
-    }
-    if code == 5 {
-        return true;
-    }
-    10 <= code
+    matches!(code, 3 | 5 | 10..)
 }
 
 // May a storage of this kind and length be fixed at a placement with this code?
+#[tactic(auto, unfolding(crate::specs::Storage::kind_matches, fields::specs::Pick::pick))]
 pub fn kind_matches(kind: u8, n: u16, code: u8) -> bool
     ensures { result ≡ kind_matches kind n code }
 {
     if takes_bit(kind) {
-        return is_bit_code(code);
+        is_bit_code(code)
+    } else if kind == 1 {
+        !is_bit_code(code)
+    } else {
+        n == 1 || is_bytes_code(code)
     }
-    if kind == 1 {
-        return !is_bit_code(code);
-    }
-    if n == 1 {
-        return true;
-    }
-    is_bytes_code(code)
 }
 
 // Does a storage record stand at the front of a tail?
+#[tactic(auto, unfolding(crate::specs::File::opens_storage, fields::specs::Record::u8_at, fields::specs::Pick::pick))]
 pub fn opens_storage(tail: &[u8]) -> bool
     ensures { result ≡ opens_storage tail.now }
 {
-    if tail.len() < 16 {
-        return false;
-    }
-    tail[0] == 1
+    16 <= tail.len() && tail[0] == 1
 }
 
 // The storage whose record stands at the front of a tail.
+#[tactic(auto, unfolding(crate::specs::Storage::stored, fields::specs::Record::storage_in, fields::specs::Record::u8_at))]
 pub fn storage_at(tail: &[u8]) -> Storage
     requires { 16 ≤ length tail.now }
     ensures { result ≡ stored (storage_in tail.now) }
 {
-    let fixed = fixed_at(tail[11], u16_at(tail, 12), u16_at(tail, 14));
     Storage {
         id: u16_at(tail, 1),
         owner: u16_at(tail, 3),
@@ -338,6 +273,6 @@ pub fn storage_at(tail: &[u8]) -> Storage
         len: u16_at(tail, 6),
         regions: u16_at(tail, 8),
         direct: tail[10] == 1,
-        fixed,
+        fixed: fixed_at(tail[11], u16_at(tail, 12), u16_at(tail, 14)),
     }
 }
