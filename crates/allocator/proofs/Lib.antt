@@ -1,4 +1,5 @@
 pub mod Fitting
+pub mod Fronts
 pub mod Going
 pub mod Keeping
 pub mod Taking

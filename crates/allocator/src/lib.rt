@@ -73,6 +73,7 @@ fn place_in(
 }
 
 // Places every storage of a file: `out` then holds a record for each, in file order, and the other buffers what `graph` leaves there.
+#[tactic(auto, using(crate::proofs::Fronts::fronts))]
 pub fn place(
     file: &[u8],
     units: &mut [u32],

@@ -170,12 +170,12 @@ impl Memory<'_> {
         ensures { result ≡ choose_fixed s p (record { app = self.now.app.now; wrk = self.now.work.now }) }
     {
         if !kind_matches(s.kind, s.len, code_of(p)) {
-            return Err(Refusal::BadFixed(s.id as usize));
+            Err(Refusal::BadFixed(s.id as usize))
+        } else if self.is_clear(room_of(s.len, p)) && is_alone(s.len, p) {
+            Ok(p)
+        } else {
+            Err(Refusal::Conflict(s.id as usize))
         }
-        if !(self.is_clear(room_of(s.len, p)) && is_alone(s.len, p)) {
-            return Err(Refusal::Conflict(s.id as usize));
-        }
-        Ok(p)
     }
 
     // A place of its own for a storage.

@@ -1,6 +1,6 @@
 // Room in the two memories: whether it is clear, the taking of it, and how far up all is taken.
 ghost use Rattle.std.specs.Prelude.{◌≡◌, ◌≤◌, length};
-ghost use Rattle.places.specs.Memory.{clear_room, reserve, Solid};
+ghost use Rattle.places.specs.Memory.{map_of, clear_room, reserve, Solid};
 ghost use Rattle.places.specs.Legal.{Small, Inside};
 
 use maps::{clear_bit, clear_bytes, next_clear, take_bit, take_bytes};
@@ -25,23 +25,62 @@ pub struct Memory<'a> {
 }
 
 impl Memory<'_> {
+    // The map of a space.
+    fn map(&self, space: Space) -> &[u8]
+        ensures { result.now ≡ map_of space (record { app = self.now.app.now; wrk = self.now.work.now }) }
+    {
+        match space {
+            Space::App => self.app,
+            Space::Work => self.work,
+        }
+    }
+
     // Is the room inside its memory, and clear?
+    #[tactic(auto, unfolding(crate::specs::Memory::clear_room))]
     pub fn is_clear(&self, room: Room) -> bool
         requires { Small room }
         ensures { result ≡ clear_room (record { app = self.now.app.now; wrk = self.now.work.now }) room }
     {
-        is_clear(self.app, self.work, room)
+        match room {
+            Room::Nowhere => true,
+            Room::Bytes {
+                space,
+                offset,
+                count,
+            } => clear_bytes(self.map(space), offset as usize, count as usize),
+            Room::OneBit { space, offset, bit } => clear_bit(
+                self.map(space),
+                offset as usize,
+                bit as usize,
+            ),
+        }
     }
 
     // Takes the room.
+    #[tactic(auto, using(maps::proofs::Laws::fill_length, maps::proofs::Laws::fill_clear, maps::proofs::Laws::set_bit_length, maps::proofs::Laws::set_bit_clear), unfolding(crate::specs::Memory::reserve))]
     pub fn take(&mut self, room: Room)
         requires { Inside (length self.old.app.now) (length self.old.work.now) room }
         ensures { (record { app = self.new.app.now; wrk = self.new.work.now }) ≡ reserve room (record { app = self.old.app.now; wrk = self.old.work.now }) }
     {
-        take_room(self.app, self.work, room);
+        match room {
+            Room::Nowhere => {}
+            Room::Bytes {
+                space,
+                offset,
+                count,
+            } => match space {
+                Space::App => take_bytes(self.app, offset as usize, count as usize),
+                Space::Work => take_bytes(self.work, offset as usize, count as usize),
+            }
+            Room::OneBit { space, offset, bit } => match space {
+                Space::App => take_bit(self.app, offset as usize, bit as usize),
+                Space::Work => take_bit(self.work, offset as usize, bit as usize),
+            }
+        }
     }
 
-    // The floor up to the first byte that is clear now.
+    // The floor up to the first byte that is clear now. It only reads, so that its caller knows the maps to stay.
+    #[tactic(auto, using(maps::proofs::Laws::taken_inside, maps::proofs::Laws::taken_next))]
     fn raised(&self) -> Floor
         ensures { Solid result self.now.app.now self.now.work.now }
     {
@@ -122,6 +161,7 @@ pub fn take_room(app: &mut [u8], work: &mut [u8], room: Room)
 }
 
 // The floor up to the first byte that is clear now.
+#[tactic(auto, using(maps::proofs::Laws::taken_inside, maps::proofs::Laws::taken_next))]
 pub fn raise(floor: Floor, app: &[u8], work: &[u8]) -> Floor
     requires { Solid floor app.now work.now }
     ensures { Solid result app.now work.now }

@@ -3,12 +3,13 @@
 use Rattle.std.specs.Prelude.{Ok}
 use mathlib.Core.Path.{sym, ap, ◌∙◌}
 use native.Mathlib.Omega.{arith}
-use lib.ListN.{length}
 use Rattle.std.proofs.lemmas.Result.{err_from_is_err_and}
 use Rattle.storages.proofs.Declared.{opened, opens_inside}
+use Rattle.slots.specs.declared.Slots.{Slots}
 use Rattle.allocator.proofs.Answering.{laid_none}
 use Rattle.allocator.proofs.Going.{going_start, Follows, placed_follows, opened_follows, going_held, front_fits, room_left, going_refused, going_on, going_end}
 use Rattle.allocator.proofs.all.place_all.Goals as goal
+use Rattle.allocator.proofs.all.place_all.Goals.{in-Some, in_default}
 
 pub loop-floor-init : goal.loop-floor-init
 loop-floor-init c =
@@ -25,8 +26,8 @@ storage_at-s-requires c =
 pub raise-floor-requires : goal.raise-floor-requires
 raise-floor-requires c = c.loop-floor.invariant.solid
 
-pub place_one-opened-requires : goal.place_one-opened-requires
-place_one-opened-requires c =
+pub place_one-requires : goal.place_one-requires
+place_one-requires c =
     let f = c.args.file.now in
     let q = opened f _ c.loop-floor.at _ _ c.tail_of.ensures.0 c.opens_storage.ensures c.loop-floor-test.true in
     let v = c.loop-floor.invariant in
@@ -48,7 +49,7 @@ returns-in_err-opened c =
     let f = c.args.file.now in
     let q = opened f _ c.loop-floor.at _ _ c.tail_of.ensures.0 c.opens_storage.ensures c.loop-floor-test.true in
     let e = err_from_is_err_and c.from_residual.result c.from_residual.ensures.1 in
-    λ g t lo hi. rw (e.1, e.2) (going_refused c.loop-floor.invariant _ _ c.tail_of-in-loop-floor.ensures.0 c.storage_at-s.ensures q _ _ _ _ _ _ _ c.place_one-opened.ensures.turned _ c.in_err-opened.was g t lo hi)
+    λ g t lo hi. rw (e.1, e.2) (going_refused c.loop-floor.invariant _ _ c.tail_of-in-loop-floor.ensures.0 c.storage_at-s.ensures q _ _ _ _ _ _ _ c.place_one.ensures.turned _ c.in_err-opened.was g t lo hi)
 
 pub overflow_add-at : goal.overflow_add-at
 overflow_add-at c =
@@ -65,9 +66,26 @@ loop-floor-smaller c =
     omega arith
 
 pub loop-floor-preserved : goal.loop-floor-preserved
-loop-floor-preserved c = ?
+loop-floor-preserved c =
+    let f = c.args.file.now in
+    let q = opened f _ c.loop-floor.at _ _ c.tail_of.ensures.0 c.opens_storage.ensures c.loop-floor-test.true in
+    let was = c.loop-floor.slots in
+    let now = c.match-opened.slots in
+    let v = c.place_one.result in
+    let s = c.storage_at-s.result in
+    let follows : Follows was.list was.count s v now.list now.count =
+    elim c.match-opened.branch [
+      | in-Some w ↦
+          opened_follows was.list was.count s v now.list now.count _ (c.in_ok-opened.was ∙ ap Ok w.in-Some.is) (ap (λ (t : Slots). t.list) w.slots-is ∙ w.open.ensures.0)
+          (ap (λ (t : Slots). t.count) w.slots-is ∙ w.open.ensures.1)
+      | in_default w ↦
+          placed_follows was.list was.count s v now.list now.count (c.in_ok-opened.was ∙ ap Ok w.in_default.is) (ap (λ (t : Slots). t.list) w.slots-is)
+          (ap (λ (t : Slots). t.count) w.slots-is)
+    ] in
+    going_on c.loop-floor.invariant _ _ c.tail_of-in-loop-floor.ensures.0 c.storage_at-s.ensures q v _ _ _ _ _ _ c.place_one.ensures.turned now.list now.count _ follows
+    c.in_ok-opened.ensures.noted _ c.raise-floor.ensures c.place_one.auto.app c.place_one.auto.work
 
 pub returns : goal.returns
 returns c =
     let f = c.args.file.now in
-    going_end c.loop-floor.invariant (opened f _ c.loop-floor.at _ _ c.tail_of.ensures.0 c.opens_storage.ensures c.loop-floor-test.false)
+    rw c.len.ensures.0 (going_end c.loop-floor.invariant (opened f _ c.loop-floor.at _ _ c.tail_of.ensures.0 c.opens_storage.ensures c.loop-floor-test.false))
