@@ -20,3 +20,4 @@ pub mod Outcomes
 pub mod Pendings
 pub mod Chains
 pub mod Reading
+pub mod Steps

@@ -81,6 +81,7 @@ pub fn clear(words: &mut [u32])
 
 // The units of a file, and beside them, for the walks that come after, the unit number of each ABI record and operand in file order and the
 // table of functions.
+#[tactic(auto, using(crate::proofs::Outcomes::cleared, crate::proofs::Outcomes::numbering_long, crate::proofs::Outcomes::numbering_units, crate::proofs::Outcomes::numbering_refused))]
 pub fn number_units(
     file: &[u8],
     words: &mut [u32],
@@ -105,6 +106,7 @@ pub fn number_units(
 }
 
 // Checks a file: how many units it has, which `units` then holds by number, or the first refusal.
+#[tactic(auto, using(crate::proofs::Outcomes::checks_short))]
 pub fn check(file: &[u8], units: &mut [u32]) -> Result<usize, Refusal>
     ensures { Checks file.now units.old result units.new }
 {

@@ -31,6 +31,7 @@ fn after_number(c: Reader, units: usize, named: usize) -> Reader
 
 impl Notes<'_> {
     // A word's number is noted: its own, or the next one.
+    #[tactic(auto, using(crate::proofs::Comings::word_full, crate::proofs::Lists::found_none, crate::proofs::Held::units_of_lem))]
     fn admit_word(&mut self, c: Reader, word: u32, at: usize) -> Result<Reader, Refusal>
         requires { Ready c self.old }
         ensures keeps { Keeps self.old self.new }
@@ -54,6 +55,7 @@ impl Notes<'_> {
         Ok(after_number(c, units + 1, named + 1))
     }
 
+    #[tactic(auto, using(crate::proofs::Comings::unit_declared, crate::proofs::Comings::unit_undeclared, crate::proofs::Held::declared_is))]
     pub fn admit_unit(
         &mut self,
         c: Reader,

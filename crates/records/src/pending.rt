@@ -92,18 +92,16 @@ fn lacks_after(lacks: u8, b: u8, n: u8) -> u8
     requires { (lacks ≤ 6) × (n ≤ 16) }
     ensures { result ≡ lacks + lacks_in b (n + 1) - lacks_in b n }
 {
-    if b == 0 {
-        return lacks;
-    }
-    match b / 8 % 4 {
-        0 if n == 0 => lacks.saturating_sub(1),
-        3 if n == 0 => lacks + 1,
-        3 if n == 1 => lacks.saturating_sub(1),
+    match (b / 8 % 4, n) {
+        (0, 0) if b != 0 => lacks.saturating_sub(1),
+        (3, 0) => lacks + 1,
+        (3, 1) => lacks.saturating_sub(1),
         _ => lacks,
     }
 }
 
 // One operand more, of a field that is no lower than the last.
+#[tactic(auto, using(crate::proofs::Pendings::given_of))]
 pub fn with_given(o: Pending, field: u8) -> Pending
     requires { (o.seen ≤ 16) × (o.lacks ≤ 6) }
     ensures { (x : Opened) → o ≡ pending_of x → Rising x.given → last_field x.given ≤ field → field < length x.row

@@ -18,6 +18,7 @@ use fields::bytes::u16_at;
 use fields::ranges::{abi_fits, header_fits, instruction_fits, storage_fits, terminator_fits};
 use fields::table::{end_entry_of, entry_of, targets_of};
 
+#[tactic(auto, using(crate::proofs::Steps::judged, crate::proofs::Steps::header_laws), unfolding(fields::specs::Record::header_at, crate::specs::Step::admit))]
 fn take_header(c: Reader, tail: &[u8], at: usize) -> Result<Reader, Refusal>
     requires { 7 ≤ length tail.now }
     ensures { (s : State) (d : Notes) → c ≡ reader_of s → Holds s d
@@ -89,6 +90,7 @@ fn after_block(c: Reader, at: usize) -> Reader
     }
 }
 
+#[tactic(auto, using(crate::proofs::Steps::judged, fields::proofs::TableLaws::fields_short), unfolding(fields::specs::Record::instruction_at, fields::specs::Record::u8_at, crate::specs::Step::admit))]
 fn take_instruction(c: Reader, tail: &[u8], at: usize) -> Result<Reader, Refusal>
     requires { 4 ≤ length tail.now }
     ensures { (s : State) (d : Notes) → c ≡ reader_of s → Holds s d
@@ -101,6 +103,7 @@ fn take_instruction(c: Reader, tail: &[u8], at: usize) -> Result<Reader, Refusal
     Ok(with_now(c, Stage::InBlock, now))
 }
 
+#[tactic(auto, using(crate::proofs::Steps::judged, crate::proofs::Held::opened_as, fields::proofs::TableLaws::end_fields_short), unfolding(fields::specs::Record::terminator_at, fields::specs::Record::u8_at, crate::specs::Step::admit))]
 fn take_terminator(c: Reader, tail: &[u8], at: usize) -> Result<Reader, Refusal>
     requires { 4 ≤ length tail.now }
     ensures { (s : State) (d : Notes) → c ≡ reader_of s → Holds s d
@@ -116,6 +119,7 @@ fn take_terminator(c: Reader, tail: &[u8], at: usize) -> Result<Reader, Refusal>
     Ok(with_now(c, Stage::AfterBlock, now))
 }
 
+#[tactic(auto, using(crate::proofs::Steps::judged, crate::proofs::Steps::target_laws), unfolding(crate::specs::Step::admit))]
 fn take_target(c: Reader, at: usize) -> Result<Reader, Refusal>
     ensures { (s : State) (id : ℕ) (d : Notes) → c ≡ reader_of s → Holds s d
         → Comes (taken one s at (target id)) result (λ s'. Holds s' d) }
@@ -127,6 +131,7 @@ fn take_target(c: Reader, at: usize) -> Result<Reader, Refusal>
     Err(Refusal::Form(at))
 }
 
+#[tactic(auto, using(crate::proofs::Steps::judged), unfolding(crate::specs::Step::admit))]
 fn take_end(c: Reader, at: usize) -> Result<Reader, Refusal>
     ensures { (s : State) (d : Notes) → c ≡ reader_of s → Holds s d
         → Comes (taken one s at end) result (λ s'. Holds s' d) }
@@ -157,6 +162,7 @@ fn cuts(stage: Stage, kind: u8) -> bool
 }
 
 impl Notes<'_> {
+    #[tactic(auto, using(crate::proofs::Steps::judged, crate::proofs::Steps::storage_laws), unfolding(fields::specs::Record::storage_in))]
     fn take_storage(&mut self, c: Reader, tail: &[u8], at: usize) -> Result<Reader, Refusal>
         requires { 16 ≤ length tail.now }
         ensures keeps { Keeps self.old self.new }
@@ -174,6 +180,7 @@ impl Notes<'_> {
         Ok(c)
     }
 
+    #[tactic(auto, using(crate::proofs::Steps::judged, crate::proofs::Steps::function_laws), unfolding(fields::specs::Record::u8_at))]
     fn take_function(&mut self, c: Reader, tail: &[u8], at: usize) -> Result<Reader, Refusal>
         requires { (2 ≤ length tail.now) × Sane c at self.old }
         ensures lent { Lent self.old self.new }
@@ -196,6 +203,7 @@ impl Notes<'_> {
         Ok(after_function(c))
     }
 
+    #[tactic(auto, using(crate::proofs::Steps::judged, crate::proofs::Comings::unit_as), unfolding(fields::specs::Record::abi_in, fields::specs::Record::u8_at, crate::specs::Step::admit))]
     fn take_abi(&mut self, c: Reader, tail: &[u8], at: usize) -> Result<Reader, Refusal>
         requires { (7 ≤ length tail.now) × Sane c at self.old }
         ensures keeps { Keeps self.old self.new }
@@ -208,6 +216,7 @@ impl Notes<'_> {
         self.admit_unit(c, tail[2], u16_at(tail, 3), u16_at(tail, 5), at)
     }
 
+    #[tactic(auto, using(crate::proofs::Steps::judged, crate::proofs::Steps::block_laws))]
     fn take_block(&mut self, c: Reader, tail: &[u8], at: usize) -> Result<Reader, Refusal>
         requires { (3 ≤ length tail.now) × Sane c at self.old }
         ensures keeps { Keeps self.old self.new }
@@ -229,6 +238,7 @@ impl Notes<'_> {
         Ok(after_block(c, at))
     }
 
+    #[tactic(auto, using(crate::proofs::Steps::judged, crate::proofs::Steps::operand_laws), unfolding(fields::specs::Record::operand_in, fields::specs::Record::u8_at))]
     fn take_operand(&mut self, c: Reader, tail: &[u8], at: usize) -> Result<Reader, Refusal>
         requires { (7 ≤ length tail.now) × Sane c at self.old }
         ensures keeps { Keeps self.old self.new }
@@ -248,6 +258,7 @@ impl Notes<'_> {
     }
 
     // The record of a kind that names no unit.
+    #[tactic(auto, using(crate::proofs::Steps::by_kind), unfolding(fields::specs::Record::header_at, fields::specs::Record::instruction_at, fields::specs::Record::terminator_at, fields::specs::Record::length_of, fields::specs::Record::lengths, fields::specs::Pick::pick))]
     fn take_plain(&mut self, c: Reader, kind: u8, tail: &[u8], at: usize) -> Result<Reader, Refusal>
         requires { (length_of one kind ≤ length tail.now) × (kind < 10) × (kind ≡ 3 → ⊥) × (kind ≡ 6 → ⊥) × Sane c at self.old }
         ensures lent { Lent self.old self.new }
@@ -268,6 +279,7 @@ impl Notes<'_> {
     }
 
     // A record that is no operand: first whether what came before it is complete.
+    #[tactic(auto, using(crate::proofs::Steps::by_kind, crate::proofs::Steps::step_laws), unfolding(fields::specs::Record::length_of, fields::specs::Record::lengths, fields::specs::Pick::pick))]
     fn step_other(&mut self, c: Reader, kind: u8, tail: &[u8], at: usize) -> Result<Reader, Refusal>
         requires { (length_of one kind ≤ length tail.now) × (kind < 10) × (kind ≡ 6 → ⊥) × Sane c at self.old }
         ensures lent { Lent self.old self.new }
@@ -289,6 +301,7 @@ impl Notes<'_> {
     }
 
     // The record at the front of a tail. An operand belongs to what is open and leaves no block, so that nothing before it needs a test.
+    #[tactic(auto, using(crate::proofs::Steps::by_kind, crate::proofs::Steps::step_laws), unfolding(fields::specs::Record::length_of, fields::specs::Record::lengths, fields::specs::Pick::pick))]
     pub fn step_on(
         &mut self,
         c: Reader,

@@ -1,14 +1,12 @@
--- `find` gives the word's number, or 512 where it has none: then it gets the next one, unless there is none left.
--- In each case the number is noted behind the numbers so far, and the units are the state's, with the word or as they were.
+-- A word that has a number keeps it, and another gets the next one; either is noted behind the numbers so far.
+-- The check finds the refusal by itself.
 use mathlib.Core.Path.{refl, sym, ap}
-use Prim.Native.Nat.{ℕ, ◌+◌, ◌≤◌}
+use Prim.Native.Nat.{ℕ, ◌+◌}
 use mathlib.Core.List.{[], ◌∷◌, ◌++◌}
-use native.Mathlib.Omega.{arith}
-use lib.ListN.{length}
 use Rattle.records.proofs.Lists.{found_known, found_number, found_none, units_more, units_room}
 use Rattle.records.proofs.Chains.{append_of}
 use Rattle.records.proofs.Held.{named_of, units_of_lem, holds_number}
-use Rattle.records.proofs.Comings.{word_known, word_full, word_new}
+use Rattle.records.proofs.Comings.{word_known, word_new}
 use Rattle.records.proofs.notes.Notes.admit_word.Goals as goal
 
 pub returns-in-Some-clause-comes : goal.returns-in-Some-clause-comes
@@ -18,13 +16,6 @@ returns-in-Some-clause-comes c =
     word_known s _ _ _ _ _ (found_known _ _ _ w _ c.in-Some.is) (found_number _ _ _ w _ c.in-Some.is)
     (c.after_number.ensures s s.units _ e (sym (units_of_lem _ s e)) (ap (λ (k : ℕ). k + 1) (named_of _ s e)))
     (holds_number s _ h s.units _ _ _ _ _ _ h.units_most h.unit_words h.chains (named_of _ s e) c.requires.room refl)
-
-pub returns-then-units-ge512-clause-comes : goal.returns-then-units-ge512-clause-comes
-returns-then-units-ge512-clause-comes c =
-    λ s e h.
-    let w = c.find.ensures.found s.units h.units_most h.unit_words h.chains in
-    let full : 512 ≤ length s.units = omega (arith, units_of_lem _ s e, c.if-units-ge512.true) in
-    word_full s _ _ _ (found_none _ _ _ w c.in_default.is) full
 
 pub returns-clause-comes : goal.returns-clause-comes
 returns-clause-comes c =
