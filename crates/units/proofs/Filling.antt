@@ -442,9 +442,9 @@ abis_chosen t (a ∷ xs) = go (t a.role) (abis_chosen t xs)
 
 -- LAW. In an accepted file the row filled from a cursor is the row of the units of the records there.
 module _ (f us found : List ℕ) (ok : check one f ≡ units us) (same : take (length (numbers one f)) found ≡ numbers one f) (at k : ℕ) (s : Stands f at k) (t : ℕ → Bool) where
-  pub operand_marks : marks t found k (fields_in (drop at f)) (replicate 8 0) ≡ unit_row one us (units_in one t (from f at).operands)
+  pub operand_marks_lem : marks t found k (fields_in (drop at f)) (replicate 8 0) ≡ unit_row one us (units_in one t (from f at).operands)
   unfolding fields_in
-  operand_marks =
+  operand_marks_lem =
       let i = stands_inside f us ok at k s in
       let b = beside_operands us found i.ids (records one (drop at f)) k (aligned f us found ok same at k s) i.holds.operands in
       ap (λ (l : List ℕ). marks t found k l (replicate 8 0)) (operand_tags (from f at).operands)

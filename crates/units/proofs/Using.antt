@@ -27,7 +27,7 @@ use Rattle.units.specs.Marks.{jotted, marks, roles_in, fields_in, wanted_by, rea
 use Rattle.units.specs.declared.cursor.Cursor.{Cursor}
 use Rattle.units.specs.declared.head.Head.{Head}
 use Rattle.units.specs.declared.uses.Roles.TheVariants.{Parameters, Results, Outcomes}
-use Rattle.units.proofs.Filling.{roles_far, operands_on, step_on, operand_marks, abi_marks_lem, either_way}
+use Rattle.units.proofs.Filling.{roles_far, operands_on, step_on, operand_marks_lem, abi_marks_lem, either_way}
 
 -- The fields of a row ----------------------------------------------------------------------------------------------------------------------------
 
@@ -189,7 +189,7 @@ module _ (f us found tb : List ℕ) (ready : Ready f us found tb) (short : lengt
         ≡ unit_row one us (units_in one (reads_field (step_of ends op sub n (from f at))) (from f at).operands)
     reads_fields ends op =
         marks_same found _ _ (read_flag ends op sub) (fields_in (drop at f)) k (replicate 8 0)
-        ∙ operand_marks f us found ready.accepted ready.found_are at k stands (reads_field (step_of ends op sub n (from f at)))
+        ∙ operand_marks_lem f us found ready.accepted ready.found_are at k stands (reads_field (step_of ends op sub n (from f at)))
 
     reads_other_end : (op : ℕ) → eqb op 3 ≡ false → eqb op 5 ≡ false → Reads true op
     unfolding reads read_abis takes_abis pick
@@ -226,7 +226,7 @@ module _ (f us found tb : List ℕ) (ready : Ready f us found tb) (short : lengt
         ≡ unit_row one us (units_in one (writes_field (step_of ends op sub n (from f at))) (from f at).operands)
     writes_fields ends op =
         marks_same found _ _ (written_flag ends op sub) (fields_in (drop at f)) k (replicate 8 0)
-        ∙ operand_marks f us found ready.accepted ready.found_are at k stands (writes_field (step_of ends op sub n (from f at)))
+        ∙ operand_marks_lem f us found ready.accepted ready.found_are at k stands (writes_field (step_of ends op sub n (from f at)))
 
     writes_end : (op : ℕ) → Writes true op
     unfolding writes written_abis pick

@@ -5,9 +5,11 @@ use Rattle.fields.specs.Pick.{pick, ◌and◌, ◌or◌}
 use Rattle.fields.specs.Edition.{one}
 use Rattle.fields.specs.Record.{Abi, Operand, u8_at}
 use Rattle.records.specs.Check.{records}
-use Rattle.records.specs.Program.{gather}
+use Rattle.fields.specs.Table.{row_word}
+use Rattle.records.specs.Program.{gather, row_by}
 use Rattle.units.specs.Uses.{is_parameter, is_result, is_outcome}
 use Rattle.units.specs.declared.cursor.Cursor.{Cursor}
+use Rattle.units.specs.declared.head.Head.{Head}
 use Rattle.units.specs.declared.uses.Roles.{Roles}
 use Rattle.units.specs.declared.uses.Roles.TheVariants.{Parameters, Results, Outcomes}
 
@@ -66,6 +68,17 @@ read_role ends op = pick ends (pick (eqb op 5) Results Parameters) Parameters
 -- A row with the units of the ABI records that stand at a cursor and are wanted.
 abbrev pub abi_marks : Roles → List ℕ → List ℕ → Cursor → List ℕ → List ℕ
 abi_marks which f ns c row = marks (wanted_by which) ns c.k (roles_in (drop c.at f)) row
+
+-- How many operands stand at a cursor, and a row with the units of those whose fields pass a test.
+abbrev pub operands_at : List ℕ → Cursor → ℕ
+operands_at f c = length (fields_in (drop c.at f))
+
+abbrev pub operand_marks : (ℕ → Bool) → List ℕ → List ℕ → Cursor → List ℕ → List ℕ
+operand_marks t f ns c row = marks t ns c.k (fields_in (drop c.at f)) row
+
+-- The row's word of a step, by the head of its record.
+abbrev pub fields_word : Head → ℕ
+fields_word head = row_word (row_by head.ends head.op head.sub)
 
 -- A row with the units of the ABI records that a step reads, and one with those that it writes: Call alone writes, what its callee leaves and clobbers.
 unfoldable pub read_abis : Bool → ℕ → List ℕ → List ℕ → Cursor → Cursor → List ℕ → List ℕ

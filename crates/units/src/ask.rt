@@ -100,8 +100,8 @@ pub fn has_effect(tail: &[u8]) -> bool
 {
     let head = head_of(tail);
     match (head.ends, head.op) {
-        (true, _) => false,
         (false, 10 | 12..=15 | 27..=29) => true,
-        (false, op) => op == 26 && 1 <= head.sub && head.sub <= 4,
+        (false, 26) => matches!(head.sub, 1..=4),
+        _ => false,
     }
 }

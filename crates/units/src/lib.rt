@@ -32,7 +32,8 @@ fn unit_row(
     Ok(())
 }
 
-// The storages of these units.
+// The storages of these units. It differs from `unit_row` in its width and in what it hands over, which is all that follows the question; a common
+// function would take that as a closure and be no plainer.
 fn storage_row(
     file: &[u8],
     place: usize,

@@ -8,7 +8,7 @@ ghost use Rattle.records.specs.Program.{Function, program, row_by};
 ghost use Rattle.units.specs.Uses.{reads as reads_of, writes as writes_of};
 ghost use Rattle.units.specs.Rows.{unit_row};
 ghost use Rattle.units.specs.Along.{from, step_from, IsStep, StandsAt, Sound, SoundSite, Sane, Ready};
-ghost use Rattle.units.specs.Marks.{jotted, marks, abi_marks, fields_in, wanted_by, read_in, written_in, callee_in, takes_abis, read_source, read_role, read_abis, written_abis};
+ghost use Rattle.units.specs.Marks.{jotted, marks, abi_marks, operands_at, operand_marks, fields_word, wanted_by, read_in, written_in, callee_in, takes_abis, read_source, read_role, read_abis, written_abis};
 
 use crate::cursor::Cursor;
 use crate::head::{Head, head_of};
@@ -28,14 +28,17 @@ enum Roles {
     Outcomes,
 }
 
-#[tactic(auto, unfolding(crate::specs::Marks::wanted_by, fields::specs::Pick::pick))]
-fn wanted(role: u8, which: Roles) -> bool
-    ensures { result ≡ wanted_by which role }
-{
-    match which {
-        Roles::Parameters => role == 0,
-        Roles::Results => role == 1,
-        Roles::Outcomes => role != 0,
+impl Roles {
+    // Whether a record of this role is wanted.
+    #[tactic(auto, unfolding(crate::specs::Marks::wanted_by, fields::specs::Pick::pick))]
+    fn want(self, role: u8) -> bool
+        ensures { result ≡ wanted_by self role }
+    {
+        match self {
+            Roles::Parameters => role == 0,
+            Roles::Results => role == 1,
+            Roles::Outcomes => role != 0,
+        }
     }
 }
 
@@ -69,7 +72,7 @@ fn abi_row(source: Numbered, c: Cursor, which: Roles, row: &mut [u64])
     let mut tail = rest_of(source.file, c.at);
     let mut k = c.k;
     while let [3, role, _, _, _, _, _, ..] = tail {
-        note(row, source.numbers[k], wanted(*role, which));
+        note(row, source.numbers[k], which.want(*role));
         tail = tail_of(tail, 7);
         k += 1;
     }
@@ -98,10 +101,10 @@ fn operand_rows(
     requires sound { Sound c × (c.at ≤ length source.file.now) }
     requires rows { (length reads.old ≡ 8) × (length writes.old ≡ 8) }
     ensures fits { result.at ≤ length source.entry.file.now }
-    ensures at { result.at ≡ c.at + 7 * length (fields_in (drop c.at source.entry.file.now)) }
-    ensures k { result.k ≡ c.k + length (fields_in (drop c.at source.entry.file.now)) }
-    ensures reads { reads.new ≡ marks (read_in (row_word (row_by head.ends head.op head.sub))) source.entry.numbers.now c.k (fields_in (drop c.at source.entry.file.now)) reads.old }
-    ensures writes { writes.new ≡ marks (written_in (row_word (row_by head.ends head.op head.sub)) head.ends) source.entry.numbers.now c.k (fields_in (drop c.at source.entry.file.now)) writes.old }
+    ensures at { result.at ≡ c.at + 7 * operands_at source.entry.file.now c }
+    ensures k { result.k ≡ c.k + operands_at source.entry.file.now c }
+    ensures reads { reads.new ≡ operand_marks (read_in (fields_word head)) source.entry.file.now source.entry.numbers.now c reads.old }
+    ensures writes { writes.new ≡ operand_marks (written_in (fields_word head) head.ends) source.entry.file.now source.entry.numbers.now c writes.old }
 {
     let fields = fields_of(head);
     let mut tail = tail_of(source.file, c.at);
@@ -133,10 +136,7 @@ fn callee_at(source: Numbered, n: u8) -> Cursor
 fn takes_abis(head: Head) -> bool
     ensures { result ≡ takes_abis head.ends head.op }
 {
-    match (head.ends, head.op) {
-        (true, op) => op == 3 || op == 5,
-        (false, op) => op == 27,
-    }
+    matches!((head.ends, head.op), (true, 3 | 5) | (false, 27))
 }
 
 // Whose ABI records such a step reads, and which: Return the results of its own function, a call the callee's parameters.
@@ -174,7 +174,7 @@ fn abi_rows(source: Numbered, own: Cursor, head: Head, reads: &mut [u64], writes
 
 // The fields of a step; none of a call and of Return.
 fn fields_of(head: Head) -> u64
-    ensures { result ≡ row_word (row_by head.ends head.op head.sub) }
+    ensures { result ≡ fields_word head }
 {
     if head.ends {
         return end_entry_of(head.op, head.sub) % ABOVE;

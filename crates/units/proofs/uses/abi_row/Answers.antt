@@ -16,7 +16,7 @@ loop-tail-preserved c =
       wide = ap length c.note.ensures ∙ length_jotted _ _ _ ∙ l.invariant.wide;
       behind = omega arith;
       marked = rw c.tail_of-tail.ensures.0
-          (marks_on (wanted_by c.args.which) c.args.source.numbers.now l.k _ _ _ _ _ _ _ (roles_more t c.in-3.len_at_least first) c.wanted.ensures c.note.ensures l.invariant.marked);
+          (marks_on (wanted_by c.args.which) c.args.source.numbers.now l.k _ _ _ _ _ _ _ (roles_more t c.in-3.len_at_least first) c.want.ensures c.note.ensures l.invariant.marked);
     }
 
 pub returns-in_default : goal.returns-in_default
