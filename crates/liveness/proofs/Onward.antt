@@ -4,25 +4,25 @@ use mathlib.Core.Path.{◌≡◌, refl, sym, ap, ◌∙◌}
 use mathlib.Core.Logic.{◌⊎◌, inl, inr}
 use mathlib.Core.Bool.{Bool, true, false, true≢false}
 use mathlib.Core.List.{List, [], ◌∷◌}
-use Prim.Native.Nat.{ℕ, zero, suc, ◌+◌, ◌*◌, ◌-◌, ◌≤◌, ◌<◌}
+use Prim.Native.Nat.{ℕ, zero, suc, ◌+◌, ◌*◌, ◌≤◌, ◌<◌}
 use native.Mathlib.Omega.{arith}
 use native.Mathlib.Decide.{dec_le}
 use lib.Dec.{eqb}
 use borrow.Author.Tests.{eqb-true}
 use lib.ListN.{length, get_or, drop, drop_of_length-le, length-drop}
 use lib.Seq.{drop-drop, get_or-drop}
+use Rattle.std.specs.Prelude.{Option, Some, None, MatchOption, IfSome, IsNone}
 use Rattle.fields.specs.Pick.{pick}
 use Rattle.fields.specs.Edition.{one}
 use Rattle.fields.specs.Record.{Operand, Rec, header, storage, function, abi, block, instruction, operand, terminator, target, end, Read, whole, fault, read, record_at, u8_at, u16_at, length_of, header_at, operand_in, instruction_at, terminator_at}
 use Rattle.records.specs.Check.{units, check, pieces, pieces_by, at_tail, records_in, records}
 use Rattle.records.specs.Program.{Rest, empty, put_step, put, gather}
-use Rattle.fields.proofs.Front.{read_whole, whole_read}
-use Rattle.records.proofs.Reading.{no_body}
+use Rattle.fields.proofs.Front.{Whole, read_whole, whole_read}
 use Rattle.fields.proofs.ByKind.{length_one, length_some, length_none, kind_header, kind_storage, kind_function, kind_abi, kind_block, kind_instruction, kind_operand, kind_terminator, kind_target, kind_end}
 use Rattle.records.proofs.Contents.{rest, rest_nil, rest_whole}
 use Rattle.records.specs.Index.{brought}
 use Rattle.units.specs.Along.{from, step_from, IsStep, Stands, brought_by}
-use Rattle.liveness.specs.Walks.{BlockHere, Stopped, Sought, Stops, Paced, Came, Outer, Inner, Kind, Same}
+use Rattle.liveness.specs.Walks.{BlockHere, Stopped, Sought, Stops, Paced, Came, Outer, Inner, Same}
 use Rattle.units.proofs.Standing.{brought_kind, stands_on}
 
 pub kind_at : (f : List ℕ) (at : ℕ) → u8_at (drop at f) 0 ≡ get_or f at 0
@@ -133,12 +133,13 @@ module _ (f : List ℕ) (at k : ℕ) (is : get_or f at 0 ≡ k) (blocks : Bool) 
 pub stopped_none : (f : List ℕ) (at : ℕ) (blocks : Bool) → from f at ≡ empty → Stopped f blocks at
 stopped_none f at blocks e = record { block = λ b n. ap (λ (r : Rest). r.blocks) e; function = λ b n. ap (λ (r : Rest). r.functions) e }
 
--- a record that is cut off
-pub from_cut : (f : List ℕ) (at n : ℕ) → n ≡ length_of one (get_or f at 0) → at < length f → length f - at < n → from f at ≡ empty
-from_cut f at n is l h = from_fault f at (no_body (drop at f) (get_or f at 0) n here is (omega (arith, length-drop at f)))
+-- where no record is whole
+pub from_none : (f : List ℕ) (at : ℕ) → (length_of one (u8_at (drop at f) 0) ≡ 0) ⊎ (length (drop at f) < length_of one (u8_at (drop at f) 0)) → from f at ≡ empty
+from_none f at o = from_by (λ r. r ≡ empty) f at refl (λ len e. absurd (go (read_whole one (drop at f) len _ e) o))
   where
-    here : get_or f at 0 ≡ get_or (drop at f) 0 0
-    here = let z : at + 0 ≡ at = omega arith in sym (get_or-drop at f 0 0 ∙ ap (λ (i : ℕ). get_or f i 0) z)
+    go : {len : ℕ} {x : Rec} → Whole one (drop at f) len x → (length_of one (u8_at (drop at f) 0) ≡ 0) ⊎ (length (drop at f) < length_of one (u8_at (drop at f) 0)) → ⊥
+    go w (inl z) = omega (arith, w.some, w.long)
+    go w (inr l) = omega (arith, w.fits, w.long)
 
 pub brought_low : (k : ℕ) → 7 * brought_by k ≤ length_of one k
 unfolding pick
@@ -149,26 +150,32 @@ brought_low k = go (eqb k 3) refl (eqb k 6) refl
     go false p true q = rw (eqb-true k 6 q, length_one 6) (omega arith)
     go false p false q = omega arith
 
--- the answers of the search's tests
-module _ (f : List ℕ) (blocks : Bool) (at : ℕ) where
-  pub paced_none : Stopped f blocks at → Paced f blocks at 0
-  paced_none h = record { stop = λ _. h; long = λ n. absurd (n refl); fits = λ n. absurd (n refl); brings = λ n. absurd (n refl); sought = λ n. absurd (n refl) }
+pub past_either : (f : List ℕ) (at : ℕ) → (length f < at) ⊎ (length f < length f) → from f at ≡ empty
+past_either f at (inl h) = from_past f at (omega arith)
+past_either f at (inr h) = absurd (omega arith)
 
-  module _ (stop : Bool) (s : Stops (get_or f at 0) blocks stop) (n : ℕ) (is : n ≡ length_of one (get_or f at 0)) (l : at < length f) (fits : n ≤ length f - at) where
-    pub paced_stop : stop ≡ true → Paced f blocks at 0
-    paced_stop e = paced_none (stopped_by f at (get_or f at 0) refl blocks (omega arith) (s.halt e))
+-- how long a whole record is, by what the reader of its tail says
+pub whole_from : (f t : List ℕ) (at : ℕ) → t ≡ drop at f → at ≤ length f → (r : Option ℕ) → IfSome r (λ len. (0 < len) × (len ≤ length t) × (len ≡ length_of one (u8_at t 0)))
+    → (IsNone r → (length_of one (u8_at t 0) ≡ 0) ⊎ (length t < length_of one (u8_at t 0)))
+    → MatchOption r (from f at ≡ empty) (λ len. (0 < len) × (at + len ≤ length f) × (len ≡ length_of one (get_or f at 0)))
+whole_from f t at e l None w n = from_none f at (rw e at (n refl))
+whole_from f t at e l (Some len) w n = (w.0, omega (arith, w.1, ap length e, length-drop at f), w.2 ∙ ap (λ (x : List ℕ). length_of one (u8_at x 0)) e ∙ ap (length_of one) (kind_at f at))
 
-    pub paced_on : stop ≡ false → Paced f blocks at n
-    paced_on e =
-        let h = s.on e in
-        let some : 0 < length_of one (get_or f at 0) = length_some (get_or f at 0) (omega (arith, h.0)) in
-        record {
-          stop = λ z. absurd (omega arith);
-          long = λ _. is;
-          fits = λ _. omega arith;
-          brings = λ _. rw is (brought_low (get_or f at 0));
-          sought = λ _. rw is (sought_on f at (get_or f at 0) refl blocks some (omega arith) h.0 h.1 h.2);
-        }
+-- what a search's test of the record there says
+module _ (f : List ℕ) (blocks : Bool) (at n : ℕ) (is : n ≡ length_of one (get_or f at 0)) (fits : at + n ≤ length f) (some : 0 < n) (stop : Bool) (s : Stops (get_or f at 0) blocks stop) where
+  pub stopped_there : stop ≡ true → Stopped f blocks at
+  stopped_there e = stopped_by f at (get_or f at 0) refl blocks (omega arith) (s.halt e)
+
+  pub paced_on : stop ≡ false → Paced f blocks at n
+  paced_on e =
+      let h = s.on e in
+      record {
+        some = some;
+        long = is;
+        fits = fits;
+        brings = rw is (brought_low (get_or f at 0));
+        sought = rw is (sought_on f at (get_or f at 0) refl blocks (omega arith) (omega arith) h.0 h.1 h.2);
+      }
 
 -- Inside a block -------------------------------------------------------------------------------------------------------------------------------
 
@@ -189,25 +196,6 @@ outer_low f at l = from_by (λ r. (r.steps ≡ []) × (r.targets ≡ [])) f at (
 
 pub outer_late : (f : List ℕ) (at : ℕ) → 8 < get_or f at 0 → Outer f at
 outer_late f at l = outer_none f at (none_late f at (get_or f at 0) refl false l)
-
-module _ (f : List ℕ) (at : ℕ) where
-  kind_none : Outer f at → Kind f at 0
-  kind_none o = record { outer = λ _. o; inner = λ n. absurd (n refl) }
-
-  pub kind_past : length f ≤ at → Kind f at 0
-  kind_past h = kind_none (outer_none f at (from_past f at h))
-
-  pub kind_low : get_or f at 0 < 5 → Kind f at 0
-  kind_low h = kind_none (outer_low f at h)
-
-  pub kind_late : 8 < get_or f at 0 → Kind f at 0
-  kind_late h = kind_none (outer_late f at h)
-
-  pub kind_cut : (n : ℕ) → n ≡ length_of one (get_or f at 0) → at < length f → length f - at < n → Kind f at 0
-  kind_cut n is l h = kind_none (outer_none f at (from_cut f at n is l h))
-
-pub kind_inner : (f : List ℕ) (at n : ℕ) → 5 ≤ get_or f at 0 → get_or f at 0 ≤ 8 → n ≡ length_of one (get_or f at 0) → at < length f → n ≤ length f - at → Kind f at (get_or f at 0)
-kind_inner f at n a b is l fits = record { outer = λ z. absurd (omega arith); inner = λ _. record { low = a; high = b; is = refl; fits = omega arith } }
 
 -- a record of a kind and its length
 module _ (f : List ℕ) (at k n : ℕ) (is : get_or f at 0 ≡ k) (long : length_of one k ≡ n) (some : 0 < n) (fits : at + n ≤ length f) where
@@ -308,33 +296,19 @@ over_operands f (o ∷ l) at e = go (read one (drop at f)) refl (over_operands f
 pub came_none : (f : List ℕ) (blocks : Bool) (at k : ℕ) → 7 * k ≤ at → Came f blocks at k at k
 came_none f blocks at k s = record { sound = s; on = omega arith; within = λ h. h; sought = record { block = λ _. refl; function = refl }; stands = λ us ok h. h }
 
-pub came_on : (f : List ℕ) (blocks : Bool) (a m at k len n : ℕ) → Came f blocks a m at k → Paced f blocks at len → 0 < len → n ≡ brought_by (get_or f at 0) → Came f blocks a m (at + len) (k + n)
-came_on f blocks a m at k len n g p l e =
-    let z : len ≡ 0 → ⊥ = λ q. absurd (omega arith) in
-    let b = p.brings z in
-    let on = p.sought z in
+pub came_on : (f : List ℕ) (blocks : Bool) (a m at k len n : ℕ) → Came f blocks a m at k → Paced f blocks at len → n ≡ brought_by (get_or f at 0) → Came f blocks a m (at + len) (k + n)
+came_on f blocks a m at k len n g p e =
     record {
-      sound = omega (arith, g.sound);
+      sound = omega (arith, g.sound, p.brings);
       on = omega (arith, g.on);
-      within = λ _. p.fits z;
-      sought = record { block = λ q. on.block q ∙ g.sought.block q; function = on.function ∙ g.sought.function };
+      within = λ _. p.fits;
+      sought = record { block = λ q. p.sought.block q ∙ g.sought.block q; function = p.sought.function ∙ g.sought.function };
       stands = λ us ok h. stands_there us ok h;
     }
   where
     stands_there : (us : List ℕ) → check one f ≡ units us → Stands f a m → Stands f (at + len) (k + n)
     stands_there us ok h =
-        let z : len ≡ 0 → ⊥ = λ q. absurd (omega arith) in
-        let is = p.long z in
-        let some : 0 < length_of one (get_or f at 0) = omega arith in
-        let r = read_kind f at (get_or f at 0) refl some (omega (arith, p.fits z)) in
+        let some : 0 < length_of one (get_or f at 0) = omega (arith, p.some, p.long) in
+        let r = read_kind f at (get_or f at 0) refl some (omega (arith, p.fits, p.long)) in
         let q : brought (record_at one (drop at f)) ≡ brought_by (get_or f at 0) = brought_kind (drop at f) (rw (kind_at f at) some) ∙ ap brought_by (kind_at f at) in
-        rw (is, e, ← q) (stands_on f us ok at k (g.stands us ok h) (length_of one (get_or f at 0)) (record_at one (drop at f)) r)
-
-pub paced_fits : (f : List ℕ) (blocks : Bool) (at len : ℕ) → Paced f blocks at len → 0 < len → at + len ≤ length f
-paced_fits f blocks at len p l = p.fits (λ q. absurd (omega arith))
-
-pub paced_brings : (f : List ℕ) (blocks : Bool) (at len : ℕ) → Paced f blocks at len → 0 < len → 7 * brought_by (get_or f at 0) ≤ len
-paced_brings f blocks at len p l = p.brings (λ q. absurd (omega arith))
-
-pub paced_end : (f : List ℕ) (blocks : Bool) (at len : ℕ) → Paced f blocks at len → len ≤ 0 → Stopped f blocks at
-paced_end f blocks at len p l = p.stop (omega arith)
+        rw (p.long, e, ← q) (stands_on f us ok at k (g.stands us ok h) (length_of one (get_or f at 0)) (record_at one (drop at f)) r)

@@ -2,10 +2,10 @@
 -- noted is what the definitions say of each block.
 use mathlib.Core.Path.{◌≡◌, refl, ◌∙◌}
 use mathlib.Core.Bool.{Bool, true, false}
-use mathlib.Core.List.{List, [], Memᴰ}
+use mathlib.Core.List.{List, [], ◌++◌, Memᴰ}
 use Prim.Native.Nat.{ℕ, ◌+◌, ◌≤◌, ◌<◌}
 use native.Mathlib.Omega.{arith}
-use lib.ListN.{length, get_or, take, set, length-set}
+use lib.ListN.{length, get_or, take, drop, set, length-set, length-append, length-drop, get_or-append}
 use lib.Seq.{get_or-set_same}
 use Rattle.fields.specs.Edition.{one}
 use Rattle.records.specs.Units.{number_in}
@@ -23,6 +23,17 @@ use Rattle.liveness.specs.declared.survey.Walk.{Walk}
 use Rattle.liveness.proofs.SetLaws.{mem_at}
 use Rattle.liveness.proofs.UseLaws.{all_mem}
 use Rattle.liveness.proofs.Counting.{tallied_start, counted_start, surveyed_all}
+
+-- A list whose front was written, as the code has it.
+abbrev pub fronted : List ℕ → List ℕ → ℕ → List ℕ
+fronted l r n = r ++ drop n l
+
+module _ (l r : List ℕ) (n : ℕ) (low : n ≤ length l) (long : length r ≡ n) where
+  pub fronted_length : length (fronted l r n) ≡ length l
+  fronted_length = omega (arith, length-append r (drop n l), length-drop n l)
+
+  pub fronted_front : (i : ℕ) → i < n → get_or (fronted l r n) i 0 ≡ get_or r i 0
+  fronted_front i h = get_or-append r (drop n l) 0 i (omega arith)
 
 -- A block has its terminator at least.
 closes_some : {ss : List Step} → Closes ss → ss ≡ [] → ⊥

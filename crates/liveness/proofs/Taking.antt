@@ -18,7 +18,7 @@ use Rattle.units.specs.Along.{step_from, IsStep, Stands, StandsAt, Sound}
 use Rattle.passes.specs.Passes.{width}
 use Rattle.liveness.specs.Flow.{use_of}
 use Rattle.liveness.specs.Survey.{read_first, written, row_for}
-use Rattle.liveness.specs.Walks.{BlockHere, Stopped, Came, Inner, Outer, Kind, Same, Within, Asked, uses_of, Taken, Walked, Tallied, Grown}
+use Rattle.liveness.specs.Walks.{BlockHere, Stopped, Came, Inner, Outer, Same, Within, Asked, uses_of, Taken, Walked, Tallied, Grown}
 use Rattle.units.specs.declared.cursor.Cursor.{Cursor}
 use Rattle.liveness.specs.declared.survey.Steps.{Steps}
 use Rattle.liveness.specs.declared.survey.Findings.{Findings}
@@ -154,12 +154,6 @@ module _ (f found table : List ℕ) (own : Cursor) (born dead : List ℕ) (notes
         kept_counts = λ j q. t.kept_counts j (omega (arith, p.more_steps)) ∙ p.kept_counts j q;
         carries = λ us fn a g. t.carries us fn w.at w.steps a (p.carries us fn a g);
       }
-
-pub kind_there : (f : List ℕ) (at kind : ℕ) → Kind f at kind → 0 < kind → Inner f at kind
-kind_there f at kind k l = k.inner (λ e. absurd (omega arith))
-
-pub kind_done : (f : List ℕ) (at kind : ℕ) → Kind f at kind → kind ≤ 0 → Outer f at
-kind_done f at kind k l = k.outer (omega arith)
 
 -- The blocks -----------------------------------------------------------------------------------------------------------------------------------
 

@@ -46,13 +46,13 @@ pub record Stops (kind : ℕ) (blocks stop : Bool) : Type 0 where
   pub on : stop ≡ false → (kind < 9) × (kind ≡ 2 → ⊥) × (blocks ≡ true → (3 ≤ kind) × (kind ≡ 4 → ⊥))
   pub halt : stop ≡ true → (kind ≡ 2) ⊎ ((9 ≤ kind) ⊎ ((blocks ≡ true) × ((kind < 2) ⊎ (kind ≡ 4))))
 
--- How far it is to the next record: 0 where the search stops.
+-- How far it is to the next record, where a search goes on over the one that stands there.
 pub record Paced (f : List ℕ) (blocks : Bool) (at len : ℕ) : Type 0 where
-  pub stop : len ≡ 0 → Stopped f blocks at
-  pub long : (len ≡ 0 → ⊥) → len ≡ length_of one (get_or f at 0)
-  pub fits : (len ≡ 0 → ⊥) → at + len ≤ length f
-  pub brings : (len ≡ 0 → ⊥) → 7 * brought_by (get_or f at 0) ≤ len
-  pub sought : (len ≡ 0 → ⊥) → Sought f blocks at (at + len)
+  pub some : 0 < len
+  pub long : len ≡ length_of one (get_or f at 0)
+  pub fits : at + len ≤ length f
+  pub brings : 7 * brought_by (get_or f at 0) ≤ len
+  pub sought : Sought f blocks at (at + len)
 
 -- Whether a block record stands there, where b blocks are read.
 pub record BlockNext (f : List ℕ) (at b : ℕ) (there : Bool) : Type 0 where
@@ -77,11 +77,6 @@ pub record Inner (f : List ℕ) (at kind : ℕ) : Type 0 where
 -- No step and no target goes on there.
 abbrev pub Outer : List ℕ → ℕ → Type 0
 Outer f at = ((from f at).steps ≡ []) × ((from f at).targets ≡ [])
-
--- The kind of a record of a block, or 0.
-pub record Kind (f : List ℕ) (at kind : ℕ) : Type 0 where
-  pub outer : kind ≡ 0 → Outer f at
-  pub inner : (kind ≡ 0 → ⊥) → Inner f at kind
 
 -- Two places with the same steps, targets, blocks and functions to come.
 pub record Same (f : List ℕ) (at to : ℕ) : Type 0 where

@@ -1,18 +1,19 @@
 // One walk over a function's records: what each block reads and writes, where it goes on, and where its steps begin.
 // Nothing relies on the order of records: what stands out of order is passed over, as the definitions pass over it.
-ghost use Rattle.std.specs.Prelude.{◌≡◌, true, false, ℕ, ◌+◌, ◌*◌, ◌≤◌, ◌<◌, length, get_or, take};
+ghost use Rattle.std.specs.Prelude.{◌≡◌, true, false, ℕ, ◌+◌, ◌*◌, ◌≤◌, ◌<◌, length, get_or, MatchOption};
 ghost use mathlib.Core.List.{List, [], ◌∷◌, ◌++◌, Memᴰ};
 ghost use Rattle.fields.specs.Edition.{one};
+ghost use Rattle.fields.specs.Record.{length_of};
 ghost use Rattle.records.specs.Units.{number_in};
-ghost use Rattle.records.specs.Program.{Step, Function, program};
+ghost use Rattle.records.specs.Program.{Step, Function, empty, program};
 ghost use Rattle.units.specs.Rows.{unit_row};
 ghost use Rattle.units.specs.Along.{from, step_from, IsStep, StandsAt, Sound, SoundSite, Ready};
 ghost use Rattle.passes.specs.Passes.{Given};
 ghost use Rattle.liveness.specs.Flow.{use_of};
 ghost use Rattle.liveness.specs.Survey.{row_for, read_first, written, Surveyed};
-ghost use Rattle.liveness.specs.Walks.{BlockHere, FunctionHere, Stopped, Stops, Paced, Came, BlockNext, Inner, Outer, Kind, Same, Within, Asked, uses_of, Taken, Walked, Tallied, Sized, Grown};
+ghost use Rattle.liveness.specs.Walks.{BlockHere, FunctionHere, Stopped, Stops, Paced, Came, BlockNext, Inner, Outer, Same, Within, Asked, uses_of, Taken, Walked, Tallied, Sized, Grown};
 
-use fields::bytes::{length_of, u16_at};
+use fields::bytes::{u16_at, whole_record};
 use passes::Blocks;
 use units::cursor::{Cursor, brings};
 use units::locate::Site;
@@ -104,37 +105,29 @@ pub struct Overview {
 fn stops(kind: u8, blocks: bool) -> bool
     ensures { Stops kind blocks result }
 {
-    if kind == 2 {
-        return true;
+    match kind {
+        2 | 9.. => true,
+        0 | 1 | 4 => blocks,
+        _ => false,
     }
-    if 9 <= kind {
-        return true;
-    }
-    if !blocks {
-        return false;
-    }
-    if kind == 4 {
-        return true;
-    }
-    kind < 2
 }
 
-// How far it is to the next record; 0 where the search stops.
-fn pace(file: &[u8], at: usize, blocks: bool) -> usize
-    ensures { Paced file.now blocks at result }
+// How long the record is that stands there whole, if one does.
+fn whole_at(file: &[u8], at: usize) -> Option<usize>
+    ensures { MatchOption result (from file.now at ≡ empty) (λ len. (0 < len) × (at + len ≤ length file.now) × (len ≡ length_of one (get_or file.now at 0))) }
 {
-    if file.len() <= at {
-        return 0;
+    whole_record(file.get(at..)?)
+}
+
+// How far it is to the next record, where the search goes on over one.
+fn pace(file: &[u8], at: usize, blocks: bool) -> Option<usize>
+    ensures { MatchOption result (Stopped file.now blocks at) (λ len. Paced file.now blocks at len) }
+{
+    let len = whole_at(file, at)?;
+    if stops(file[at], blocks) {
+        return None;
     }
-    let kind = file[at];
-    let len = length_of(kind);
-    if file.len() - at < len {
-        return 0;
-    }
-    if stops(kind, blocks) {
-        return 0;
-    }
-    len
+    Some(len)
 }
 
 // The next block of the function, or the next function; or where there is none.
@@ -144,33 +137,22 @@ pub fn seek(file: &[u8], c: Cursor, blocks: bool) -> Cursor
 {
     let mut at = c.at;
     let mut k = c.k;
-    let mut len = pace(file, at, blocks);
-    while 0 < len {
+    while let Some(len) = pace(file, at, blocks) {
         k += brings(file[at]);
         at += len;
-        len = pace(file, at, blocks);
     }
     Cursor { at, k }
 }
 
-// The kind of a record that belongs to a block, and 0 where there is none.
-fn inner(file: &[u8], at: usize) -> u8
-    ensures { Kind file.now at result }
+// The kind of a record that belongs to a block, where one stands there.
+fn inner(file: &[u8], at: usize) -> Option<u8>
+    ensures { MatchOption result (Outer file.now at) (λ kind. Inner file.now at kind) }
 {
-    if file.len() <= at {
-        return 0;
+    whole_at(file, at)?;
+    match file[at] {
+        kind @ 5..=8 => Some(kind),
+        _ => None,
     }
-    let kind = file[at];
-    if kind < 5 {
-        return 0;
-    }
-    if 8 < kind {
-        return 0;
-    }
-    if file.len() - at < length_of(kind) {
-        return 0;
-    }
-    kind
 }
 
 // A step's two rows, and with them what the steps so far read first and what they write: what it reads and they do not write, and what it writes.
@@ -279,10 +261,8 @@ fn block_records(
         born.old dead.old notes.old begin born.new dead.new notes.new result × Outer source.entry.file.now result.at }
 {
     let mut w = begin;
-    let mut kind = inner(source.file, w.at);
-    while 0 < kind {
+    while let Some(kind) = inner(source.file, w.at) {
         w = take_record(source, own, kind, w, begin.targets, born, dead, notes);
-        kind = inner(source.file, w.at);
     }
     w
 }
@@ -334,30 +314,25 @@ fn take_block(
     }
 }
 
-// The first place of an id among the first `count`, or `count`.
-fn position(ids: &[u16], count: usize, id: u16) -> usize
-    requires { count ≤ length ids.now }
-    ensures { (result ≤ count) × (result ≡ number_in id (take count ids.now)) }
+// The number of a block, by its id; the number of blocks where none has it.
+fn number_of(ids: &[u16], id: u16) -> usize
+    ensures { (result ≤ length ids.now) × (result ≡ number_in id ids.now) }
 {
-    let mut i = 0;
-    while i < count {
-        if ids[i] == id {
+    for (i, &other) in ids.iter().enumerate() {
+        if other == id {
             return i;
         }
-        i += 1;
     }
-    count
+    ids.len()
 }
 
-// Target ids become block numbers; a missing block has the number of blocks.
-fn number_targets(ids: &[u16], count: usize, targets: &mut [u16], n: usize)
-    requires { (count ≤ 128) × (count ≤ length ids.now) × (n ≤ length targets.old) }
-    ensures { (i : ℕ) → i < n → get_or targets.new i 0 ≡ number_in (get_or targets.old i 0) (take count ids.now) }
+// Target ids become block numbers.
+fn number_targets(ids: &[u16], targets: &mut [u16])
+    requires { length ids.now ≤ 128 }
+    ensures { (i : ℕ) → i < length targets.old → get_or targets.new i 0 ≡ number_in (get_or targets.old i 0) ids.now }
 {
-    let mut i = 0;
-    while i < n {
-        targets[i] = position(ids, count, targets[i]) as u16;
-        i += 1;
+    for target in targets {
+        *target = number_of(ids, *target) as u16;
     }
 }
 
@@ -365,16 +340,7 @@ fn number_targets(ids: &[u16], count: usize, targets: &mut [u16], n: usize)
 fn at_block(file: &[u8], at: usize, b: usize) -> bool
     ensures { BlockNext file.now at b result }
 {
-    if BLOCKS <= b {
-        return false;
-    }
-    if file.len() <= at {
-        return false;
-    }
-    if file.len() - at < 3 {
-        return false;
-    }
-    file[at] == 4
+    b < BLOCKS && matches!(file.get(at..), Some([4, _, _, ..]))
 }
 
 // The function whose records begin at `own`, for the passes and for the graph.
@@ -405,7 +371,7 @@ pub fn survey(source: Numbered, own: Cursor, findings: &mut Findings) -> Overvie
         w = take_block(source, own, w, b, findings, &mut ids);
         b += 1;
     }
-    number_targets(&ids, b, &mut findings.steps.targets, w.targets);
+    number_targets(&ids[..b], &mut findings.steps.targets[..w.targets]);
     let c = Cursor { at: w.at, k: w.k };
     let after = seek(source.file, c, false);
     Overview { blocks: b, after }

@@ -1,19 +1,14 @@
--- A kind outside 5 to 8, and a record that is not there or is cut off, ends the steps and targets that come; a whole one of these kinds is the answer.
--- Assumes nothing.
-use Rattle.liveness.proofs.Onward.{kind_past, kind_low, kind_late, kind_cut, kind_inner}
+-- Where no record is whole, and at a kind outside 5 to 8, no step and no target comes.
+-- A whole record of any other kind is the answer.
+use native.Mathlib.Omega.{arith}
+use Rattle.liveness.proofs.Onward.{outer_none, outer_low, outer_late}
 use Rattle.liveness.proofs.survey.inner.Goals as goal
 
-pub returns-then-file-at : goal.returns-then-file-at
-returns-then-file-at c = kind_past _ _ c.if-file-at.true
+pub returns-in_err-whole_at : goal.returns-in_err-whole_at
+returns-in_err-whole_at c = rw c.from_residual.ensures (outer_none c.args.file.now c.args.at c.in_err-whole_at.ensures)
 
-pub returns-then-kind-lt5 : goal.returns-then-kind-lt5
-returns-then-kind-lt5 c = kind_low _ _ c.if-kind-lt5.true
+pub returns-in_default : goal.returns-in_default
+returns-in_default c = outer_low c.args.file.now c.args.at (omega arith)
 
-pub returns-then-kind-gt8 : goal.returns-then-kind-gt8
-returns-then-kind-gt8 c = kind_late _ _ c.if-kind-gt8.true
-
-pub returns-then-file-at-2 : goal.returns-then-file-at-2
-returns-then-file-at-2 c = kind_cut _ _ _ c.length_of.ensures c.if-file-at.false c.if-file-at-2.true
-
-pub returns : goal.returns
-returns c = kind_inner _ _ _ c.if-kind-lt5.false c.if-kind-gt8.false c.length_of.ensures c.if-file-at.false c.if-file-at-2.false
+pub returns-in_default-2 : goal.returns-in_default-2
+returns-in_default-2 c = outer_late c.args.file.now c.args.at (omega arith)

@@ -1,16 +1,13 @@
--- A record that is not there, or is cut off, has nothing after it; a whole one stops the search or is passed over as its kind says.
--- Assumes nothing.
-use Rattle.liveness.proofs.Onward.{from_past, from_cut, stopped_none, paced_none, paced_stop, paced_on}
+-- Where no record is whole nothing comes; a whole one stops the search or is passed over, as its kind says.
+-- Its length is that of its kind.
+use Rattle.liveness.proofs.Onward.{stopped_none, stopped_there, paced_on}
 use Rattle.liveness.proofs.survey.pace.Goals as goal
 
-pub returns-then-file-at : goal.returns-then-file-at
-returns-then-file-at c = paced_none _ _ _ (stopped_none _ _ _ (from_past _ _ c.if-file-at.true))
-
-pub returns-then-file-at-2 : goal.returns-then-file-at-2
-returns-then-file-at-2 c = paced_none _ _ _ (stopped_none _ _ _ (from_cut _ _ _ c.length_of-len.ensures c.if-file-at.false c.if-file-at-2.true))
+pub returns-in_err-len : goal.returns-in_err-len
+returns-in_err-len c = rw c.from_residual.ensures (stopped_none c.args.file.now c.args.at c.args.blocks c.in_err-len.ensures)
 
 pub returns-then-stops : goal.returns-then-stops
-returns-then-stops c = paced_stop _ _ _ _ c.stops.ensures _ c.length_of-len.ensures c.if-file-at.false c.if-file-at-2.false c.if-stops.true
+returns-then-stops c = let e = c.in_ok-len.ensures in stopped_there _ _ _ _ e.2 e.1 e.0 _ c.stops.ensures c.if-stops.true
 
 pub returns : goal.returns
-returns c = paced_on _ _ _ _ c.stops.ensures _ c.length_of-len.ensures c.if-file-at.false c.if-file-at-2.false c.if-stops.false
+returns c = let e = c.in_ok-len.ensures in paced_on _ _ _ _ e.2 e.1 e.0 _ c.stops.ensures c.if-stops.false
