@@ -1,4 +1,4 @@
--- `Units::find` meets its contract. The loop's invariant is `Seeking`: the walk stands in the word's bucket, and the word is not at `next` or above.
+-- The loop's invariant is `Seeking`: the walk stands in the word's bucket, and the word is not at `next` or above.
 -- The measure is `next`, since each link leads to a lower unit. Assumes nothing.
 use Rattle.records.proofs.Chains.{Seeking}
 use Rattle.records.proofs.notes.Notes.find.Given as goal
