@@ -65,7 +65,8 @@ fn rest_of<'a>(source: Numbered<'a>, c: Cursor) -> &'a [u8]
     tail_of(source.file, c.at)
 }
 
-// The units of the ABI records at the front of a tail whose roles are wanted; their numbers stand from k on.
+// The units of the ABI records at the front of a tail whose roles are wanted; their numbers stand from k on. They are counted and not sliced off, since
+// k lies past the last of them where a callee is not there.
 fn abi_row(tail: &[u8], source: Numbered, k: usize, which: Roles, row: &mut [u64])
     requires fits { Behind k tail.now }
     requires wide { length row.old ≡ 8 }
