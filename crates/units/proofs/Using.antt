@@ -262,8 +262,8 @@ module _ (f t : List ℕ) (at : ℕ) (tail : t ≡ drop at f) (head : Head)
     behind_step : Stands f (at + 4) k
     behind_step = step_on f us ready.accepted at k is fits here
 
-    pub behind_operands : (next : Cursor) → next.at ≡ at + 4 + 7 * length (fields_in (drop (at + 4) f)) → next.k ≡ k + length (fields_in (drop (at + 4) f)) → StandsAt f next
-    behind_operands next e d = rw (e, d) (operands_on f us ready.accepted (length (fields_in (drop (at + 4) f))) (at + 4) k refl behind_step)
+    pub behind_operands : (n : ℕ) → n ≡ length (fields_in (drop (at + 4) f)) → Stands f (at + 4 + 7 * n) (k + n)
+    behind_operands n e = operands_on f us ready.accepted n (at + 4) k e behind_step
 
     pub reads_law : (r₀ r₁ r₂ r₃ : List ℕ) → length r₀ ≡ 8 → r₁ ≡ put r₀ 0 (replicate 8 0)
         → r₂ ≡ read_abis head.ends head.op f found (callee_in tb head.callee) own r₁

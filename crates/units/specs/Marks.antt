@@ -69,13 +69,6 @@ read_role ends op = pick ends (pick (eqb op 5) Results Parameters) Parameters
 abbrev pub abi_marks : Roles → List ℕ → List ℕ → Cursor → List ℕ → List ℕ
 abi_marks which f ns c row = marks (wanted_by which) ns c.k (roles_in (drop c.at f)) row
 
--- How many operands stand at a cursor, and a row with the units of those whose fields pass a test.
-abbrev pub operands_at : List ℕ → Cursor → ℕ
-operands_at f c = length (fields_in (drop c.at f))
-
-abbrev pub operand_marks : (ℕ → Bool) → List ℕ → List ℕ → Cursor → List ℕ → List ℕ
-operand_marks t f ns c row = marks t ns c.k (fields_in (drop c.at f)) row
-
 -- The row's word of a step, by the head of its record.
 abbrev pub fields_word : Head → ℕ
 fields_word head = row_word (row_by head.ends head.op head.sub)

@@ -2,7 +2,8 @@
 ghost use Rattle.std.specs.Prelude.{◌≡◌};
 ghost use Rattle.units.specs.Along.{brought_by};
 
-// A place in the file, and how many unit numbers come before it.
+// A place in the file, and how many unit numbers come before it. That these fit before it (`Sound`) is no ghost field, since the definitions build
+// cursors from tables of which nothing is known.
 #[derive(Clone, Copy)]
 pub struct Cursor {
     pub at: usize,

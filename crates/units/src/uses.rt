@@ -8,7 +8,7 @@ ghost use Rattle.records.specs.Program.{Function, program, row_by};
 ghost use Rattle.units.specs.Uses.{reads as reads_of, writes as writes_of};
 ghost use Rattle.units.specs.Rows.{unit_row};
 ghost use Rattle.units.specs.Along.{from, step_from, IsStep, StandsAt, Sound, SoundSite, Sane, Ready};
-ghost use Rattle.units.specs.Marks.{jotted, marks, abi_marks, operands_at, operand_marks, fields_word, wanted_by, read_in, written_in, callee_in, takes_abis, read_source, read_role, read_abis, written_abis};
+ghost use Rattle.units.specs.Marks.{jotted, marks, Behind, roles_in, fields_in, fields_word, wanted_by, read_in, written_in, callee_in, takes_abis, read_source, read_role, read_abis, written_abis};
 
 use crate::cursor::Cursor;
 use crate::head::{Head, head_of};
@@ -53,28 +53,31 @@ fn note(row: &mut [u64], n: u16, wanted: bool)
     }
 }
 
-// The part of the file from a place onward, empty past the end: a function that is not there has no records.
-fn rest_of(file: &[u8], at: usize) -> &[u8]
-    ensures { result.now ≡ drop at file.now }
+// The part of the file from a cursor onward, empty past the end: a function that is not there has no records.
+fn rest_of<'a>(source: Numbered<'a>, c: Cursor) -> &'a [u8]
+    requires { Sound c }
+    ensures is { result.now ≡ drop c.at source.entry.file.now }
+    ensures fits { Behind c.k result.now }
 {
-    if file.len() < at {
+    if source.file.len() < c.at {
         return &[];
     }
-    tail_of(file, at)
+    tail_of(source.file, c.at)
 }
 
-// The units of the ABI records at a cursor whose roles are wanted.
-fn abi_row(source: Numbered, c: Cursor, which: Roles, row: &mut [u64])
-    requires sound { Sound c }
+// The units of the ABI records at the front of a tail whose roles are wanted; their numbers stand from k on. They are counted and not sliced off, since
+// k lies past the last of them where a callee is not there.
+fn abi_row(tail: &[u8], source: Numbered, k: usize, which: Roles, row: &mut [u64])
+    requires fits { Behind k tail.now }
     requires wide { length row.old ≡ 8 }
-    ensures { row.new ≡ abi_marks which source.entry.file.now source.entry.numbers.now c row.old }
+    ensures { row.new ≡ marks (wanted_by which) source.entry.numbers.now k (roles_in tail.now) row.old }
 {
-    let mut tail = rest_of(source.file, c.at);
-    let mut k = c.k;
-    while let [3, role, _, _, _, _, _, ..] = tail {
-        note(row, source.numbers[k], which.want(*role));
-        tail = tail_of(tail, 7);
-        k += 1;
+    let mut rest = tail;
+    let mut n = k;
+    while let [3, role, _, _, _, _, _, ..] = rest {
+        note(row, source.numbers[n], which.want(*role));
+        rest = tail_of(rest, 7);
+        n += 1;
     }
 }
 
@@ -90,34 +93,31 @@ fn note_operand(reads: &mut [u64], writes: &mut [u64], n: u16, fields: u64, ends
     note(writes, n, !ends && flags / 32 % 2 == 1);
 }
 
-// The units of the operands at a cursor, by the fields of their step. Answers the cursor behind them.
+// The units of the operands at the front of a tail, by the fields of their step; their numbers stand from k on. Answers how many operands there are.
 fn operand_rows(
+    tail: &[u8],
     source: Numbered,
-    c: Cursor,
+    k: usize,
     head: Head,
     reads: &mut [u64],
     writes: &mut [u64],
-) -> Cursor
-    requires sound { Sound c × (c.at ≤ length source.file.now) }
+) -> usize
+    requires fits { Behind k tail.now }
     requires rows { (length reads.old ≡ 8) × (length writes.old ≡ 8) }
-    ensures fits { result.at ≤ length source.entry.file.now }
-    ensures at { result.at ≡ c.at + 7 * operands_at source.entry.file.now c }
-    ensures k { result.k ≡ c.k + operands_at source.entry.file.now c }
-    ensures reads { reads.new ≡ operand_marks (read_in (fields_word head)) source.entry.file.now source.entry.numbers.now c reads.old }
-    ensures writes { writes.new ≡ operand_marks (written_in (fields_word head) head.ends) source.entry.file.now source.entry.numbers.now c writes.old }
+    ensures count { result ≡ length (fields_in tail.now) }
+    ensures fits { 7 * result ≤ length tail.now }
+    ensures reads { reads.new ≡ marks (read_in (fields_word head)) source.entry.numbers.now k (fields_in tail.now) reads.old }
+    ensures writes { writes.new ≡ marks (written_in (fields_word head) head.ends) source.entry.numbers.now k (fields_in tail.now) writes.old }
 {
     let fields = fields_of(head);
-    let mut tail = tail_of(source.file, c.at);
-    let mut k = c.k;
-    while let [6, field, _, _, _, _, _, ..] = tail {
-        note_operand(reads, writes, source.numbers[k], fields, head.ends, *field);
-        tail = tail_of(tail, 7);
-        k += 1;
+    let mut rest = tail;
+    let mut n = k;
+    while let [6, field, _, _, _, _, _, ..] = rest {
+        note_operand(reads, writes, source.numbers[n], fields, head.ends, *field);
+        rest = tail_of(rest, 7);
+        n += 1;
     }
-    Cursor {
-        at: source.file.len() - tail.len(),
-        k,
-    }
+    n - k
 }
 
 // The cursor behind the record of function n; far behind every file where there is none.
@@ -166,9 +166,10 @@ fn abi_rows(source: Numbered, own: Cursor, head: Head, reads: &mut [u64], writes
     }
     let callee = callee_at(source, head.callee);
     let (whose, which) = read_from(head, callee, own);
-    abi_row(source, whose, which, reads);
+    abi_row(rest_of(source, whose), source, whose.k, which, reads);
     if !head.ends {
-        abi_row(source, callee, Roles::Outcomes, writes);
+        let records = rest_of(source, callee);
+        abi_row(records, source, callee.k, Roles::Outcomes, writes);
     }
 }
 
@@ -199,13 +200,15 @@ impl Numbered<'_> {
         rows::clear(reads, 0, 8);
         rows::clear(writes, 0, 8);
         let Site { own, here } = site;
-        let head = head_of(tail_of(self.file, here.at));
+        let tail = tail_of(self.file, here.at);
+        let head = head_of(tail);
         abi_rows(self, own, head, reads, writes);
-        let behind = Cursor {
-            at: here.at + 4,
-            k: here.k,
-        };
-        operand_rows(self, behind, head, reads, writes)
+        let operands = tail_of(tail, 4);
+        let count = operand_rows(operands, self, here.k, head, reads, writes);
+        Cursor {
+            at: here.at + 4 + 7 * count,
+            k: here.k + count,
+        }
     }
 }
 

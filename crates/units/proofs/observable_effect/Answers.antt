@@ -3,19 +3,12 @@
 use borrow.Author.Rules.{rules}
 use mathlib.Core.List.{[]}
 use native.Mathlib.Omega.{arith}
-use lib.Seq.{length-take-le}
 use Rattle.std.proofs.lemmas.Result.{err_from_is_err_and}
 use Rattle.units.proofs.Asking.{tells_short, tells_here, tells_refused, reached, sought_refused}
 use Rattle.units.proofs.observable_effect.Goals as goal
 
 pub returns-then-units-lt512 : goal.returns-then-units-lt512
 returns-then-units-lt512 c = tells_short _ _ _ c.if-units-lt512.true
-
-pub slice_bounds-find_step-end-2 : goal.slice_bounds-find_step-end-2
-slice_bounds-find_step-end-2 c = search (rules, length-take-le)
-
-pub find_step-requires : goal.find_step-requires
-find_step-requires c = (length-take-le 512 c.args.units.now (search rules), search rules, search rules)
 
 pub tail_of-requires : goal.tail_of-requires
 tail_of-requires c = omega (arith, (reached _ _ _ _ _ _ c.find_step.ensures _ c.in_ok-site.was).sound.2)
