@@ -1,7 +1,7 @@
 -- The first number of a row at or above another: the rest of its own word, then whole words, then the lowest bit of the first that is not 0. A walk
 -- that goes from each such number to the next sees the row's numbers in order, each once.
 use mathlib.Core.Path.{◌≡◌, refl, sym, ap, subst, ◌∙◌}
-use mathlib.Core.Bool.{true, false, false≢true}
+use mathlib.Core.Bool.{Bool, true, false, false≢true}
 use mathlib.Core.Logic.{⊎_elim}
 use mathlib.Core.List.{List, [], ◌∷◌}
 use Prim.Native.Nat.{ℕ, zero, suc, ◌+◌, ◌-◌, ◌*◌, ◌/◌, ◌%◌, ◌^◌, ◌≤◌, ◌<◌}
@@ -15,7 +15,7 @@ use lib.ListN.{length, get_or}
 use Rattle.rows.specs.Row.{Words, digit, bit, member}
 use Rattle.rows.proofs.Digit.{digit_low, digit_suc, bit_zero, half_lt}
 use Rattle.rows.proofs.Rows.{lt_or_ge}
-use Rattle.fields.specs.Pick.{pick_yes, pick_no}
+use Rattle.fields.specs.Pick.{pick, pick_yes, pick_no}
 use Rattle.meetings.specs.Members.{Lowest, Filled, First, members_from, ahead, members}
 
 -- ---- the lowest bit of a word
@@ -166,6 +166,20 @@ module _ {r : List ℕ} {from found : ℕ} (f : First r from found) where
 pub ahead_end : (r : List ℕ) (n : ℕ) → 64 * length r ≤ n → ahead r n ≡ []
 unfolding ahead members_from
 ahead_end r n h = let a : 64 * length r - n ≡ 0 = omega arith in ap (members_from r n) a
+
+-- A member is below the row's end.
+members_below : (r : List ℕ) (n k v : ℕ) (l : List ℕ) → members_from r n k ≡ v ∷ l → v < n + k
+unfolding members_from pick
+members_below r n zero v l e = cc
+members_below r n (suc k) v l e = go (member r n) e (members_below r (suc n) k v l)
+  where
+    go : (b : Bool) → pick b (n ∷ members_from r (suc n) k) (members_from r (suc n) k) ≡ v ∷ l → (members_from r (suc n) k ≡ v ∷ l → v < suc n + k) → v < n + suc k
+    go true e ih = let q : n ≡ v = cc in omega arith
+    go false e ih = omega (arith, ih e)
+
+pub ahead_below : (r : List ℕ) (n v : ℕ) (l : List ℕ) → n ≤ 64 * length r → ahead r n ≡ v ∷ l → v < 64 * length r
+unfolding ahead
+ahead_below r n v l h e = omega (arith, members_below r n (64 * length r - n) v l e)
 
 -- A row whose words are all 0 holds no number.
 pub no_members : (r : List ℕ) (n : ℕ) → Filled r 0 n → length r ≤ n → members r ≡ []

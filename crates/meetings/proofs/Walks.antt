@@ -1,6 +1,6 @@
 -- A loop over the members of a row that changes a buffer once for each, by the member's storage. What the members still ahead make of the buffer now is
 -- what all of them make of the buffer at the start, so at the end the buffer is that.
-use mathlib.Core.Path.{◌≡◌, refl, sym, ap, ◌∙◌}
+use mathlib.Core.Path.{◌≡◌, refl, sym, ap, ap₂, ◌∙◌}
 use mathlib.Core.Bool.{Bool, true, false}
 use mathlib.Core.List.{List, [], ◌∷◌, ◌++◌, map}
 use Prim.Native.Nat.{ℕ, suc, ◌+◌, ◌-◌, ◌*◌, ◌/◌, ◌^◌, ◌≤◌, ◌<◌, min, max}
@@ -12,42 +12,39 @@ use Rattle.rows.specs.Row.{Words, with_at, row, put, or_row, less_row, less}
 use Rattle.rows.proofs.Rows.{length_row, length_zip, row_whole, put_whole}
 use Rattle.fields.specs.Pick.{pick_yes, pick_no}
 use Rattle.units.specs.Sets.{each}
-use Rattle.meetings.specs.Members.{Lowest, First, ahead, members}
+use Rattle.meetings.specs.Members.{Lowest, ahead, members}
+use Rattle.meetings.specs.Visits.{left}
+use Rattle.meetings.specs.declared.members.Members.{Members}
 use Rattle.meetings.specs.Meeting.{storage_at, storages_at, paired, unit_pairs, unit_rows, less_rows, poured, wanted, met, pairs_to, copy_pairs}
-use Rattle.meetings.proofs.Firsts.{first_ahead, first_cons, ahead_end, word_room, word_next, word_rest, word_done}
+use Rattle.meetings.proofs.Firsts.{ahead_end, ahead_below, word_room, word_next, word_rest, word_done}
 
-pub record Walking (F : List ℕ → List ℕ → List ℕ) (words r : List ℕ) (size : ℕ) (start now : List ℕ) (at : ℕ) : Type 0 where
-  pub len : length now ≡ size
-  pub high : at ≤ 512
-  pub there : at < 512 → ahead r at ≡ at ∷ ahead r (at + 1)
-  pub same : F (storages_at words (ahead r at)) now ≡ F (storages_at words (members r)) start
+-- What the iterator over a row's members has left at first, and what it gives.
+pub left_all : (s t : Members) (r : List ℕ) → s ≡ t → (t.row.now ≡ r) × (t.next ≡ 0) → left s ≡ members r
+left_all s t r e f = ap left e ∙ ap₂ ahead f.0 f.1
 
-module _ (F : List ℕ → List ℕ → List ℕ) (words r : List ℕ) (size : ℕ) (start : List ℕ) (eight : length r ≡ 8) where
-  pub walk_start : (at : ℕ) → length start ≡ size → First r 0 at → Walking F words r size start start at
-  walk_start at l f = record {
-    len = l;
-    high = omega (arith, f.high);
-    there = λ h. first_cons f (omega arith);
-    same = ap (λ (ns : List ℕ). F (storages_at words ns) start) (sym (first_ahead f));
-  }
+pub left_below : (s : Members) (v : ℕ) (l : List ℕ) → left s ≡ v ∷ l → v < 512
+left_below s v l e = omega (arith, ahead_below s.row.now s.next v l (omega (arith, s.within, s.eight)) e, s.eight)
 
-  module _ {now : List ℕ} {at : ℕ} (w : Walking F words r size start now at) where
-    pub walk_on : (next : List ℕ) (at' i : ℕ) → at < 512 → length next ≡ size → i ≡ storage_at words at → ((is : List ℕ) → F (i ∷ is) now ≡ F is next)
-        → First r (at + 1) at' → Walking F words r size start next at'
+-- The members `rest` of `all` are still to come.
+pub record Visiting (F : List ℕ → List ℕ → List ℕ) (words all rest start now : List ℕ) : Type 0 where
+  pub same : F (storages_at words rest) now ≡ F (storages_at words all) start
+
+module _ (F : List ℕ → List ℕ → List ℕ) (words all start : List ℕ) where
+  pub visit_start : (rest : List ℕ) → rest ≡ all → Visiting F words all rest start start
+  visit_start rest e = record { same = ap (λ (ns : List ℕ). F (storages_at words ns) start) e }
+
+  module _ {now rest : List ℕ} (w : Visiting F words all rest start now) where
+    pub visit_on : (next rest' : List ℕ) (v i : ℕ) → rest ≡ v ∷ rest' → i ≡ storage_at words v → ((is : List ℕ) → F (i ∷ is) now ≡ F is next) → Visiting F words all rest' start next
     unfolding storages_at
-    walk_on next at' i h l q e f = record {
-      len = l;
-      high = omega (arith, f.high);
-      there = λ g. first_cons f (omega arith);
+    visit_on next rest' v i e q f = record {
       same =
-          ap (λ (ns : List ℕ). F (storages_at words ns) next) (sym (first_ahead f)) ∙ sym (e (storages_at words (ahead r (at + 1))))
-          ∙ ap (λ (j : ℕ). F (j ∷ storages_at words (ahead r (at + 1))) now) q
-          ∙ ap (λ (ns : List ℕ). F (storages_at words ns) now) (sym (w.there h)) ∙ w.same;
+          sym (f (storages_at words rest')) ∙ ap (λ (j : ℕ). F (j ∷ storages_at words rest') now) q
+          ∙ ap (λ (ns : List ℕ). F (storages_at words ns) now) (sym e) ∙ w.same;
     }
 
-    pub walk_end : 512 ≤ at → F [] now ≡ now → now ≡ F (storages_at words (members r)) start
+    pub visit_end : rest ≡ [] → F [] now ≡ now → now ≡ F (storages_at words all) start
     unfolding storages_at
-    walk_end h e = sym e ∙ ap (λ (ns : List ℕ). F (storages_at words ns) now) (sym (ahead_end r at (omega arith))) ∙ w.same
+    visit_end e h = sym h ∙ ap (λ (ns : List ℕ). F (storages_at words ns) now) (sym e) ∙ w.same
 
 -- ---- the same over one word, which is held in hand: the members from its start on and those from its end on make of the buffers the same
 

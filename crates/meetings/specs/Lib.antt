@@ -1,3 +1,4 @@
 pub mod Members
 pub mod Meeting
 pub mod Closing
+pub mod Visits

@@ -6,7 +6,7 @@ ghost use Rattle.units.specs.Uses.{storage_of};
 ghost use Rattle.meetings.specs.Members.{members};
 ghost use Rattle.meetings.specs.Meeting.{storages_at, paired, unit_rows, less_rows, poured, wanted, met, pairs_to, copies_noted, addressed_noted};
 
-use crate::members::next_member;
+use crate::members::Members;
 
 // The storage of a unit word.
 pub fn storage_of(word: u32) -> usize
@@ -39,10 +39,8 @@ pub fn spare(x: &mut [u64], units: &[u64], words: &[u32], reads: &[u64])
     requires { (length x.old ≡ 8) × (length units.now ≡ 2048) × (length words.now ≡ 512) × (length reads.now ≡ 8) }
     ensures { x.new ≡ less_rows units.now (storages_at words.now (members reads.now)) x.old }
 {
-    let mut v = next_member(reads, 0);
-    while v < 512 {
+    for v in Members::of(reads) {
         rows::less_from(x, 0, units, storage_of(words[v]) * 8, 8);
-        v = next_member(reads, v + 1);
     }
 }
 
@@ -69,10 +67,8 @@ pub fn pour(meets: &mut [u64], x: &[u64], words: &[u32], writes: &[u64])
     requires { (length meets.old ≡ 2048) × (length x.now ≡ 8) × (length words.now ≡ 512) × (length writes.now ≡ 8) }
     ensures { meets.new ≡ poured x.now (storages_at words.now (members writes.now)) meets.old }
 {
-    let mut w = next_member(writes, 0);
-    while w < 512 {
+    for w in Members::of(writes) {
         rows::union_from(meets, storage_of(words[w]) * 8, x, 0, 8);
-        w = next_member(writes, w + 1);
     }
 }
 
@@ -114,10 +110,8 @@ pub fn note_copies_to(copies: &mut [u64], words: &[u32], reads: &[u64], i: usize
     requires { (length copies.old ≡ 1024) × (length words.now ≡ 512) × (length reads.now ≡ 8) × (i < 256) }
     ensures { copies.new ≡ paired 4 (pairs_to i (storages_at words.now (members reads.now))) copies.old }
 {
-    let mut v = next_member(reads, 0);
-    while v < 512 {
+    for v in Members::of(reads) {
         note_pair(copies, i, storage_of(words[v]));
-        v = next_member(reads, v + 1);
     }
 }
 
@@ -126,10 +120,8 @@ pub fn note_copies(copies: &mut [u64], words: &[u32], reads: &[u64], writes: &[u
     requires { (length copies.old ≡ 1024) × (length words.now ≡ 512) × (length reads.now ≡ 8) × (length writes.now ≡ 8) }
     ensures { copies.new ≡ copies_noted copies.old words.now reads.now writes.now }
 {
-    let mut w = next_member(writes, 0);
-    while w < 512 {
+    for w in Members::of(writes) {
         note_copies_to(copies, words, reads, storage_of(words[w]));
-        w = next_member(writes, w + 1);
     }
 }
 
@@ -138,9 +130,7 @@ pub fn note_addressed(addressed: &mut [u64], words: &[u32], reads: &[u64])
     requires { (length addressed.old ≡ 4) × (length words.now ≡ 512) × (length reads.now ≡ 8) }
     ensures { addressed.new ≡ addressed_noted addressed.old words.now reads.now }
 {
-    let mut v = next_member(reads, 0);
-    while v < 512 {
+    for v in Members::of(reads) {
         rows::insert(addressed, 0, storage_of(words[v]));
-        v = next_member(reads, v + 1);
     }
 }

@@ -1,5 +1,5 @@
 // The members of a row, one after another.
-ghost use Rattle.std.specs.Prelude.{◌*◌, ◌≤◌, ◌<◌, length};
+ghost use Rattle.std.specs.Prelude.{◌≡◌, ◌*◌, ◌≤◌, ◌<◌, length};
 ghost use Rattle.meetings.specs.Members.{Lowest, Filled, First};
 
 // The lowest set bit of a word that is not 0.
@@ -44,4 +44,44 @@ pub fn next_member(row: &[u64], from: usize) -> usize
         return next * 64;
     }
     next * 64 + low_bit(row[next])
+}
+
+// The members of a row of units that are still ahead, in rising order.
+#[derive(Clone, Copy)]
+pub struct Members<'a> {
+    pub row: &'a [u64],
+    pub next: usize,
+    pub ghost eight: { length row.now ≡ 8 },
+    pub ghost within: { next ≤ 512 },
+}
+
+impl<'a> Members<'a> {
+    // All members of a row of units.
+    pub fn of(row: &'a [u64]) -> Self
+        requires { length row.now ≡ 8 }
+        ensures { (result.row.now ≡ row.now) × (result.next ≡ 0) }
+    {
+        Members { row, next: 0 }
+    }
+}
+
+impl Iterator for Members<'_> {
+    ghost use Rattle.std.specs.Iterator.{YieldsFirst, item_count};
+    ghost use Rattle.meetings.specs.Visits.{left};
+
+    type Item = usize;
+
+    ghost next_gives = { YieldsFirst left };
+
+    ghost remaining = { item_count left };
+
+    fn next(&mut self) -> Option<usize> {
+        let member = next_member(self.row, self.next);
+        if member == 512 {
+            self.next = 512;
+            return None;
+        }
+        self.next = member + 1;
+        Some(member)
+    }
 }
