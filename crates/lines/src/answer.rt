@@ -46,8 +46,8 @@ fn put_units<const ROOM: usize>(page: &mut ArrayVec<u8, ROOM>, units: &[u32; 512
     put(page, b"units ");
     put_number(page, count as u64);
     put(page, b"\n");
-    for number in 0..count.min(512) {
-        put_unit(page, number, units[number]);
+    for (number, unit) in units[..count.min(512)].iter().enumerate() {
+        put_unit(page, number, *unit);
     }
 }
 

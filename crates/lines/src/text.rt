@@ -6,7 +6,7 @@ ghost use Rattle.lines.specs.Text.{decimal, shape_text};
 
 use arrayvec::ArrayVec;
 
-// Puts the bytes of `word`.
+// Puts the bytes of `word`. There is room, so the vector takes all of them.
 pub fn put<const ROOM: usize>(page: &mut ArrayVec<u8, ROOM>, word: &[u8])
     requires { array_vec_len page.old + length word.now ≤ ROOM }
     ensures { page.new.items ≡ page.old.items ++ word.now }
