@@ -20,16 +20,13 @@ use Rattle.storages.specs.declared.Storage.{Storage}
 use Rattle.storages.specs.Storage.{stored}
 use Rattle.storages.specs.File.{opens_storage, storages_by, declared}
 use Rattle.storages.proofs.Declared.{opens_inside, opened as opened_at}
-use Rattle.maps.specs.Maps.{TakenBelow}
 use Rattle.slots.specs.declared.Slot.{Slot}
 use Rattle.slots.specs.Slots.{opened}
-use Rattle.places.specs.declared.memory.Floor.{Floor}
-use Rattle.places.specs.Memory.{Solid}
 use Rattle.places.specs.Legal.{FixedSmall}
 use Rattle.places.specs.Place.{Given, State, Outcome, done, refused, step, place_from, records_of}
 use Rattle.turns.specs.Held.{Tells, Held, list_after, count_after, TurnedBy}
 use Rattle.allocator.specs.All.{Allocates, Fit}
-use Rattle.turns.proofs.Turns.{After, Over, place_next, place_refused, step_over}
+use Rattle.turns.proofs.Turns.{place_next, place_refused}
 use Rattle.turns.proofs.Linking.{linked_none}
 use Rattle.allocator.proofs.Fitting.{fits_small}
 
@@ -44,13 +41,12 @@ told graph copies hi = record { meets = λ i j. member_at graph (i * 4) j; copie
 told_tells : (graph copies : List ℕ) (hi : ℕ) → Tells (told graph copies hi) graph copies
 told_tells graph copies hi = record { meeting = λ i j a b. refl; copying = λ i j a b. refl }
 
--- The loop's invariant: the maps keep their lengths, the floor is solid, every record ahead fits and there is an entry for it, and placing
+-- The loop's invariant: the maps keep their lengths, every record ahead fits and there is an entry for it, and placing
 -- comes to the same from here.
-pub record Going (file graph copies app₀ wrk₀ app wrk : List ℕ) (list : List Slot) (n : ℕ) (ids kin numbers out : List ℕ) (at i : ℕ) (floor : Floor) : Type 0 where
+pub record Going (file graph copies app₀ wrk₀ app wrk : List ℕ) (list : List Slot) (n : ℕ) (ids kin numbers out : List ℕ) (at i : ℕ) : Type 0 where
   pub inside : at ≤ length file
   pub app_long : length app ≡ length app₀
   pub wrk_long : length wrk ≡ length wrk₀
-  pub solid : Solid floor app wrk
   pub fuel : ℕ
   pub enough : length file ≤ at + fuel
   pub fits : All (λ x. R.storage_fits one x ≡ true) (storages_by fuel (drop at file))
@@ -58,10 +54,6 @@ pub record Going (file graph copies app₀ wrk₀ app wrk : List ℕ) (list : Li
   pub held : (g : Given) → Tells g graph copies → g.lo ≡ 0 → g.hi ≡ length app₀
       → (x : State) × Held x app wrk list n ids kin numbers out i
       × (place_from g (map stored (storages_by fuel (drop at file))) x ≡ place_from g (map stored (declared file)) (begun app₀ wrk₀))
-
--- A floor of the words is one of the state that they stand for, and the other way.
-same_solid : (f : Floor) (app wrk app' wrk' : List ℕ) → app ≡ app' → wrk ≡ wrk' → Solid f app wrk → Solid f app' wrk'
-same_solid f app wrk app' wrk' p q h = (subst (λ (m : List ℕ). TakenBelow m f.app) p h.0, subst (λ (m : List ℕ). TakenBelow m f.work) q h.1)
 
 -- ---- The start
 
@@ -87,13 +79,12 @@ module _ (file graph copies app wrk : List ℕ) (list : List Slot) (ids kin numb
   }
 
   pub going_start : 7 ≤ length file → Fit file → kin ≡ replicate 512 0 → out ≡ laid 2048 [] []
-      → Going file graph copies app wrk app wrk list 0 ids kin numbers out 7 0 (record { app = 0; work = 0 })
+      → Going file graph copies app wrk app wrk list 0 ids kin numbers out 7 0
   unfolding declared
   going_start h fit clear e = record {
     inside = h;
     app_long = refl;
     wrk_long = refl;
-    solid = (λ j l. absurd (not-suc-le-zero l), λ j l. absurd (not-suc-le-zero l));
     fuel = length file;
     enough = omega arith;
     fits = fit.each;
@@ -129,8 +120,8 @@ front_cons file at zero h e o = absurd (omega (arith, opens_inside file at h o))
 front_cons file at (suc k) h e o =
     (k, omega arith, pick_yes (opens_storage (drop at file)) _ _ o ∙ ap (λ (t : List ℕ). R.storage_in (drop at file) ∷ storages_by k t) (drop-drop 16 at file))
 
-module _ {file graph copies app₀ wrk₀ app wrk : List ℕ} {list : List Slot} {n : ℕ} {ids kin numbers out : List ℕ} {at i : ℕ} {floor : Floor}
-    (s : Going file graph copies app₀ wrk₀ app wrk list n ids kin numbers out at i floor) where
+module _ {file graph copies app₀ wrk₀ app wrk : List ℕ} {list : List Slot} {n : ℕ} {ids kin numbers out : List ℕ} {at i : ℕ}
+    (s : Going file graph copies app₀ wrk₀ app wrk list n ids kin numbers out at i) where
   -- The words stand for a state, since they tell what is given themselves.
   pub going_held : (x : State) × Held x app wrk list n ids kin numbers out i
   going_held = let h = s.held (told graph copies (length app₀)) (told_tells graph copies (length app₀)) refl refl in (h.0, h.1)
@@ -174,25 +165,14 @@ module _ {file graph copies app₀ wrk₀ app wrk : List ℕ} {list : List Slot}
           go (Ok (Some p)) k e = e
           go (Err _) k e = elim k [ ]
 
-      -- What was taken still is.
-      still_solid : (list' : List Slot) (n' : ℕ) → Follows list n z v list' n' → (up : Floor) → Solid up app wrk → Solid up app' wrk'
-      still_solid list' n' f up b =
-          let g = told graph copies (length app₀) in
-          let t = told_tells graph copies (length app₀) in
-          let h = s.held g t refl refl in
-          let q = leaves list' n' f (step g z h.0) (turn g h.0 t refl (sym s.app_long) h.1) in
-          let before : Over up h.0 = same_solid up app wrk _ _ h.1.app_is h.1.wrk_is b in
-          same_solid up _ _ app' wrk' (sym q.2.app_is) (sym q.2.wrk_is) (subst (After (Over up)) q.1 (step_over g up z h.0 before))
-
-      pub going_on : (list' : List Slot) (n' i' : ℕ) → Follows list n z v list' n' → i' ≡ i + 1 → (up : Floor) → Solid up app wrk → length app' ≡ length app → length wrk' ≡ length wrk
-          → Going file graph copies app₀ wrk₀ app' wrk' list' n' ids' kin' numbers' out' (at + 16) i' up
-      going_on list' n' i' f ei up b la lw =
+      pub going_on : (list' : List Slot) (n' i' : ℕ) → Follows list n z v list' n' → i' ≡ i + 1 → length app' ≡ length app → length wrk' ≡ length wrk
+          → Going file graph copies app₀ wrk₀ app' wrk' list' n' ids' kin' numbers' out' (at + 16) i'
+      going_on list' n' i' f ei la lw =
           let k = front_cons file at s.fuel s.inside s.enough o in
           rw ei (record {
             inside = opens_inside file at s.inside o;
             app_long = la ∙ s.app_long;
             wrk_long = lw ∙ s.wrk_long;
-            solid = still_solid list' n' f up b;
             fuel = k.0;
             enough = k.1;
             fits = (subst (All (λ x. R.storage_fits one x ≡ true)) k.2 s.fits).1;
@@ -219,7 +199,7 @@ module _ {file graph copies app₀ wrk₀ app wrk : List ℕ} {list : List Slot}
       none x (suc k) = ap (λ (ss : List R.Storage). place_from g (map stored ss) x) (pick_no (opens_storage (drop at file)) _ _ o)
 
 -- Where the code finds a storage at the front of the rest, there is room for one slot more.
-pub room_left : {file graph copies app₀ wrk₀ app wrk : List ℕ} {list : List Slot} {n : ℕ} {ids kin numbers out : List ℕ} {at i : ℕ} {floor : Floor}
-    → Going file graph copies app₀ wrk₀ app wrk list n ids kin numbers out at i floor → (t u : List ℕ) (r : Bool) (z : Storage)
+pub room_left : {file graph copies app₀ wrk₀ app wrk : List ℕ} {list : List Slot} {n : ℕ} {ids kin numbers out : List ℕ} {at i : ℕ}
+    → Going file graph copies app₀ wrk₀ app wrk list n ids kin numbers out at i → (t u : List ℕ) (r : Bool) (z : Storage)
     → t ≡ drop at file → r ≡ opens_storage t → r ≡ true → u ≡ drop at file → z ≡ stored (R.storage_in u) → n < 256
 room_left {file = file} {at = at} s t u r z et er e eu ez = front_few s u z eu ez (opened_at file t at r true et er e)

@@ -9,7 +9,7 @@ ghost use Rattle.allocator.specs.All.{Fit, Allocates};
 
 use fields::bytes::{tail_of, u16_at};
 use maps::take_bytes;
-use places::memory::{Floor, raise};
+use places::memory::{Floor, Memory};
 use records::Refusal;
 use slots::Slots;
 use storages::{opens_storage, storage_at};
@@ -24,29 +24,26 @@ pub struct Allocated {
     pub slots: usize,
 }
 
-// Every storage in turn, from maps in which nothing is placed yet.
+// Every storage in turn, from memories in which nothing is placed yet.
 pub fn place_all(
     file: &[u8],
     relations: Relations,
-    app: &mut [u8],
-    work: &mut [u8],
+    memory: &mut Memory,
     ledger: &mut Ledger,
 ) -> Result<Allocated, Refusal>
     requires fit { (7 ≤ length file.now) × Fit file.now }
-    requires maps { (length app.old ≤ 256) × (length work.old ≤ 512) }
     requires begun { (ledger.old.kin ≡ replicate 512 0) × (ledger.old.records ≡ replicate 2048 0) × (ledger.old.count ≡ 0) }
-    ensures { (g : Given) → Tells g relations.entry.graph.now relations.entry.copies.now → g.lo ≡ 0 → g.hi ≡ length app.old
-        → Allocates (place_from g (map stored (declared file.now)) (record { maps = record { app = app.old; wrk = work.old }; slots = []; placed = [] }))
+    ensures { (g : Given) → Tells g relations.entry.graph.now relations.entry.copies.now → g.lo ≡ 0 → g.hi ≡ length memory.old.app.now
+        → Allocates (place_from g (map stored (declared file.now)) (record { maps = record { app = memory.old.app.now; wrk = memory.old.work.now }; slots = []; placed = [] }))
         result ledger.new.records }
 {
     let mut slots = Slots::new();
-    let mut floor = Floor { app: 0, work: 0 };
     // The walk goes over records by the file's own bytes.
     let mut at = 7;
     while opens_storage(tail_of(file, at)) {
         let s = storage_at(tail_of(file, at));
-        floor = raise(floor, app, work);
-        let opened = place_one(&slots, s, relations, app, work, floor, ledger)?;
+        memory.raise();
+        let opened = place_one(&slots, s, relations, memory, ledger)?;
         if let Some(p) = opened {
             slots.open(s, p);
         }
@@ -77,5 +74,10 @@ pub fn allocate(
     let f = u16_at(file, 3) as usize;
     let w = u16_at(file, 5) as usize;
     take_bytes(&mut app, 0, f);
-    place_all(file, relations, &mut app[..a], &mut work[..w], ledger)
+    let mut memory = Memory {
+        app: &mut app[..a],
+        work: &mut work[..w],
+        floor: Floor { app: 0, work: 0 },
+    };
+    place_all(file, relations, &mut memory, ledger)
 }

@@ -61,13 +61,6 @@ module _ (p : ℕ → Slot → Bool) (ts : List Slot) where
       go true e came = subst (λ (m : ℕ). Came (suc i) found (first_of p ts i m)) (sym (pick_yes _ i found e)) (hit (first_of p ts i i) e (came i))
       go false e came = subst (λ (m : ℕ). Came (suc i) found (first_of p ts i m)) (sym (pick_no _ i found e)) (miss (first_of p ts i found) e (came found))
 
-  pub first_within : (n : ℕ) → first_of p ts n n ≤ n
-  first_within n = go (first_came n n)
-    where
-      go : Came n n (first_of p ts n n) → first_of p ts n n ≤ n
-      go (inl (e, none)) = omega arith
-      go (inr (h, t, none)) = omega arith
-
   -- A number below n was found: its slot passes, and no smaller one does.
   pub first_found : (n : ℕ) → first_of p ts n n < n → Passes (first_of p ts n n) × NoneBelow (first_of p ts n n)
   first_found n h = go (first_came n n)

@@ -47,9 +47,6 @@ unfolding pick
 pick_length true a b e = e
 pick_length false a b e = refl
 
-pub put_length : (t : Bool) (r z : List ℕ) (k : ℕ) → z ≡ pick t (with_at r 0 k) r → length z ≡ length r
-put_length t r z k e = ap length e ∙ pick_length t (with_at r 0 k) r (length_with_at r 0 k)
-
 -- ---- All storages
 
 pub none_marked : (k : ℕ) → member_at (replicate 4 0) 0 k ≡ false

@@ -4,7 +4,7 @@ use Rattle.std.specs.Prelude.{Some, None, Result, Ok}
 use mathlib.Core.Path.{◌≡◌, refl, sym, ap, ◌∙◌, subst}
 use mathlib.Core.Bool.{false}
 use mathlib.Core.List.{List}
-use Prim.Native.Nat.{ℕ, ◌<◌}
+use Prim.Native.Nat.{ℕ}
 use native.Mathlib.Omega.{arith}
 use lib.ListN.{length}
 use Rattle.storages.specs.declared.Placement.{Placement}
@@ -46,9 +46,6 @@ module _ (g : Given) (s : Storage) (x : State) where
 
     there : SlotFor g s x.slots (Some k)
     there = subst (SlotFor g s x.slots) (sym e) (slot_for_lem g s x.slots)
-
-    pub joins_below : k < length x.slots
-    joins_below = there.1
 
     pub joins_key : slot_key (slot_at x.slots k).slot ≡ key_of s
     unfolding fits

@@ -54,7 +54,8 @@ impl Marks {
     }
 }
 
-// All placed storages of this one's key, the last first. A slot that a storage may join has members of its key only, one at least; a slot of another owner, kind or length does not suit it, marked or not.
+// All placed storages of this one's key, the last first. A slot that a storage may join has members of its key only, one at least;
+// a slot of another owner, kind or length does not suit it, marked or not.
 fn mark(relations: Relations, id: usize, key: usize, ledger: &Ledger) -> Marks
     requires own { (id < 256) × (key < 256) }
     requires few { ledger.now.count ≤ 256 }

@@ -1,8 +1,7 @@
 // One storage is placed: into a slot, or at a place of its own.
-ghost use Rattle.std.specs.Prelude.{◌≡◌, Some, None, ◌+◌, ◌≤◌, ◌<◌, length, IfOk};
+ghost use Rattle.std.specs.Prelude.{◌≡◌, Some, None, ◌+◌, ◌<◌, length, IfOk};
 ghost use Rattle.fields.specs.Pick.{pick};
 ghost use Rattle.storages.specs.Storage.{tries};
-ghost use Rattle.places.specs.Memory.{Solid};
 ghost use Rattle.places.specs.Legal.{FixedSmall};
 ghost use Rattle.places.specs.Place.{Given, State, choose, take_room, step};
 ghost use Rattle.turns.specs.Held.{Tells, Held, list_after, count_after, TurnedBy};
@@ -10,8 +9,7 @@ ghost use Rattle.turns.specs.Held.{Tells, Held, list_after, count_after, TurnedB
 use crate::ledger::Ledger;
 use crate::marks::slot_for;
 use crate::relations::Relations;
-use places::choose::choose;
-use places::memory::{Floor, take_room};
+use places::memory::Memory;
 use records::Refusal;
 use slots::Slots;
 use storages::{Placement, Storage, room_of, tries_slots};
@@ -36,22 +34,20 @@ fn number_for(n: usize, s: Storage) -> usize
 fn take_own(
     slots: &Slots,
     s: Storage,
-    app: &mut [u8],
-    work: &mut [u8],
-    floor: Floor,
+    memory: &mut Memory,
     ledger: &mut Ledger,
 ) -> Result<Option<Placement>, Refusal>
-    requires maps { (length app.old ≤ 256) × (length work.old ≤ 512) × Solid floor app.old work.old }
     requires room { ledger.old.count < 256 }
     requires own { (s.id < 256) × FixedSmall s.len s.fixed }
-    ensures turned { (g : Given) (x : State) → g.lo ≡ 0 → g.hi ≡ length app.old
-        → Held x app.old work.old slots.now.list slots.now.count ledger.old.ids ledger.old.kin ledger.old.numbers ledger.old.records ledger.old.count
-        → TurnedBy (take_room s x (choose g s x.maps)) result app.new work.new (list_after slots.now.list slots.now.count s result) (count_after slots.now.count result)
+    ensures turned { (g : Given) (x : State) → g.lo ≡ 0 → g.hi ≡ length memory.old.app.now
+        → Held x memory.old.app.now memory.old.work.now slots.now.list slots.now.count ledger.old.ids ledger.old.kin ledger.old.numbers ledger.old.records ledger.old.count
+        → TurnedBy (take_room s x (choose g s x.maps)) result memory.new.app.now memory.new.work.now (list_after slots.now.list slots.now.count s result) (count_after slots.now.count result)
         ledger.new.ids ledger.new.kin ledger.new.numbers ledger.new.records (ledger.old.count + 1) }
+    ensures kept { (length memory.new.app.now ≡ length memory.old.app.now) × (length memory.new.work.now ≡ length memory.old.work.now) }
     ensures noted { IfOk result (λ _. ledger.new.count ≡ ledger.old.count + 1) }
 {
-    let p = choose(s, app, work, floor, 0, app.len())?;
-    take_room(app, work, room_of(s.len, p));
+    let p = memory.choose(s)?;
+    memory.take(room_of(s.len, p));
     ledger.note(s, number_for(slots.len(), s), p);
     Ok(opens(s, p))
 }
@@ -61,24 +57,22 @@ pub fn place_one(
     slots: &Slots,
     s: Storage,
     relations: Relations,
-    app: &mut [u8],
-    work: &mut [u8],
-    floor: Floor,
+    memory: &mut Memory,
     ledger: &mut Ledger,
 ) -> Result<Option<Placement>, Refusal>
-    requires maps { (length app.old ≤ 256) × (length work.old ≤ 512) × Solid floor app.old work.old }
     requires room { ledger.old.count < 256 }
     requires own { (s.id < 256) × FixedSmall s.len s.fixed }
-    requires held { (x : State) × Held x app.old work.old slots.now.list slots.now.count ledger.old.ids ledger.old.kin ledger.old.numbers ledger.old.records ledger.old.count }
-    ensures turned { (g : Given) (x : State) → Tells g relations.entry.graph.now relations.entry.copies.now → g.lo ≡ 0 → g.hi ≡ length app.old
-        → Held x app.old work.old slots.now.list slots.now.count ledger.old.ids ledger.old.kin ledger.old.numbers ledger.old.records ledger.old.count
-        → TurnedBy (step g s x) result app.new work.new (list_after slots.now.list slots.now.count s result) (count_after slots.now.count result)
+    requires held { (x : State) × Held x memory.old.app.now memory.old.work.now slots.now.list slots.now.count ledger.old.ids ledger.old.kin ledger.old.numbers ledger.old.records ledger.old.count }
+    ensures turned { (g : Given) (x : State) → Tells g relations.entry.graph.now relations.entry.copies.now → g.lo ≡ 0 → g.hi ≡ length memory.old.app.now
+        → Held x memory.old.app.now memory.old.work.now slots.now.list slots.now.count ledger.old.ids ledger.old.kin ledger.old.numbers ledger.old.records ledger.old.count
+        → TurnedBy (step g s x) result memory.new.app.now memory.new.work.now (list_after slots.now.list slots.now.count s result) (count_after slots.now.count result)
         ledger.new.ids ledger.new.kin ledger.new.numbers ledger.new.records (ledger.old.count + 1) }
+    ensures kept { (length memory.new.app.now ≡ length memory.old.app.now) × (length memory.new.work.now ≡ length memory.old.work.now) }
     ensures noted { IfOk result (λ _. ledger.new.count ≡ ledger.old.count + 1) }
 {
     if let Some(k) = slot_for(slots, s, relations, ledger) {
         ledger.note(s, k, slots.placement(k));
         return Ok(None);
     }
-    take_own(slots, s, app, work, floor, ledger)
+    take_own(slots, s, memory, ledger)
 }

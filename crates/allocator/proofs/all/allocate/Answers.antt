@@ -1,7 +1,7 @@
 -- `allocate` meets its contract. The header fits, so that its numbers lie inside the arrays; their front parts are the maps that placing starts from.
 use mathlib.Core.Path.{sym, ◌∙◌}
 use native.Mathlib.Omega.{arith}
-use Rattle.allocator.proofs.Fitting.{header_low, first_low, work_low, work_long, app_room, app_long, starts}
+use Rattle.allocator.proofs.Fitting.{first_low, work_low, work_long, app_room, app_long, starts}
 use Rattle.allocator.proofs.all.allocate.Goals as goal
 
 pub take_bytes-requires : goal.take_bytes-requires
@@ -14,28 +14,20 @@ slice_bounds-app-end c =
     let h = c.requires.header in
     app_room _ _ _ h _ _ _ c.u16_at-a.ensures c.u16_at-f.ensures c.u16_at-w.ensures _ c.take_bytes.ensures
 
-pub slice_bounds-place_all-end : goal.slice_bounds-place_all-end
-slice_bounds-place_all-end c =
-    let h = c.requires.header in
-    app_long _ _ _ h _ _ _ c.u16_at-a.ensures c.u16_at-f.ensures c.u16_at-w.ensures _ c.take_bytes.ensures
-
 pub slice_bounds-work-end : goal.slice_bounds-work-end
 slice_bounds-work-end c =
     let h = c.requires.header in
     work_low _ _ _ h _ _ _ c.u16_at-a.ensures c.u16_at-f.ensures c.u16_at-w.ensures
 
-pub slice_bounds-place_all-end-2 : goal.slice_bounds-place_all-end-2
-slice_bounds-place_all-end-2 c =
+pub slice_bounds-memory-end : goal.slice_bounds-memory-end
+slice_bounds-memory-end c =
+    let h = c.requires.header in
+    app_long _ _ _ h _ _ _ c.u16_at-a.ensures c.u16_at-f.ensures c.u16_at-w.ensures _ c.take_bytes.ensures
+
+pub slice_bounds-memory-end-2 : goal.slice_bounds-memory-end-2
+slice_bounds-memory-end-2 c =
     let h = c.requires.header in
     work_long _ _ _ h _ _ _ c.u16_at-a.ensures c.u16_at-f.ensures c.u16_at-w.ensures
-
-pub place_all-requires : goal.place_all-requires
-place_all-requires c =
-    let p = c.requires in
-    let h = header_low _ _ _ p.header in
-    let a = app_long _ _ _ p.header _ _ _ c.u16_at-a.ensures c.u16_at-f.ensures c.u16_at-w.ensures _ c.take_bytes.ensures in
-    let w = work_long _ _ _ p.header _ _ _ c.u16_at-a.ensures c.u16_at-f.ensures c.u16_at-w.ensures in
-    record { fit = p.fit; maps = (omega (arith, h.0, a, c.u16_at-a.ensures), omega (arith, h.2, w, c.u16_at-w.ensures)); begun = p.begun }
 
 pub returns : goal.returns
 returns c =

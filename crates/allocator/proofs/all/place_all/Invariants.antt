@@ -5,10 +5,9 @@ use lib.ListN.{length}
 use Rattle.allocator.proofs.Going.{Going}
 use Rattle.allocator.proofs.all.place_all.Given as goal
 
-abbrev pub invariant-loop-floor : goal.invariant-loop-floor
-invariant-loop-floor l =
-    Going l.file l.relations.graph.now l.relations.copies.now l.initial.app l.initial.work l.app l.work l.slots.list l.slots.count l.ledger.ids l.ledger.kin l.ledger.numbers l.ledger.records l.at l.ledger.count
-    l.floor
+abbrev pub invariant-loop-s : goal.invariant-loop-s
+invariant-loop-s l =
+    Going l.file l.relations.graph.now l.relations.copies.now l.initial.memory.app.now l.initial.memory.work.now l.memory.app.now l.memory.work.now l.slots.list l.slots.count l.ledger.ids l.ledger.kin l.ledger.numbers l.ledger.records l.at l.ledger.count
 
-abbrev pub decreases-loop-floor : goal.decreases-loop-floor
-decreases-loop-floor l = length l.file - l.at
+abbrev pub decreases-loop-s : goal.decreases-loop-s
+decreases-loop-s l = length l.file - l.at
