@@ -2,13 +2,11 @@
 -- summed, and the words those of the last function. A file has no more functions than bytes, so the sum stays small.
 use mathlib.Core.Path.{◌≡◌, refl, sym, ap, ap₂, ◌∙◌, subst}
 use mathlib.Core.Logic.{◌⊎◌, inl, inr}
-use mathlib.Core.Bool.{false, true≢false}
+use mathlib.Core.Bool.{false}
 use mathlib.Core.List.Memᴰ
 use mathlib.Core.List.{List, [], ◌∷◌, ◌++◌, map, append_assoc, append-nil, Memᴰ}
 use Prim.Native.Nat.{ℕ, zero, suc, ◌+◌, ◌-◌, ◌*◌, ◌≤◌, ◌<◌}
 use native.Mathlib.Omega.{arith}
-use borrow.Author.Tests.{eqb-true, eq-eqb}
-use lib.Dec.{eqb}
 use lib.ListN.{length, get_or, drop, length-append, replicate, length-replicate}
 use Rattle.rows.specs.Row as W
 use Rattle.rows.proofs.Rows.{lt_or_ge, row_ext, row_whole, get_or_put_in, get_or_put_out}
@@ -36,7 +34,7 @@ use Rattle.graph.specs.Graphs.{last_live}
 use Rattle.graph.specs.Gathered.{Stop, stops_of, stops}
 use Rattle.graph.specs.declared.basis.Basis.{Basis}
 use Rattle.graph.specs.declared.sketch.Sketch.{Sketch}
-use Rattle.graph.specs.Walking.{Noted, file, Told, Owner, FunctionTaken, Granted, Fresh, FunctionNext, stops_by, passes_by, Walked, AllTaken}
+use Rattle.graph.specs.Walking.{Noted, file, Told, Owner, FunctionTaken, Granted, Fresh, stops_by, passes_by, Walked, AllTaken}
 use Rattle.graph.proofs.Meeting.{gathered_none, paired_none, addressed_none}
 
 -- ---- the function that stands at a cursor
@@ -60,18 +58,6 @@ module _ (f : List ℕ) (at : ℕ) (h : FunctionHere f at) where
       let z : k + 0 ≡ k = omega arith in
       rw (long, ap brought (kind_function (drop at f) (kind_at f at ∙ h.0)), z) at
       (stands_on f us ok at k s (length_of one 2) (record_at one (drop at f)) (read_kind f at 2 h.0 (omega (arith, long)) (omega (arith, long, h.1))))
-
--- ---- whether there is one
-
-module _ (f : List ℕ) (at : ℕ) where
-  pub next_past : length f ≤ at → FunctionNext f at false
-  next_past h = record { yes = λ e. absurd (true≢false (sym e)); no = λ _ q. absurd (omega (arith, q.1)) }
-
-  pub next_cut : length f - at < 2 → FunctionNext f at false
-  next_cut h = record { yes = λ e. absurd (true≢false (sym e)); no = λ _ q. absurd (omega (arith, q.1)) }
-
-  pub next_is : 2 ≤ length f - at → FunctionNext f at (eqb (get_or f at 0) 2)
-  next_is h = record { yes = λ e. (eqb-true (get_or f at 0) 2 e, omega arith); no = λ e q. absurd (true≢false (sym (eq-eqb (get_or f at 0) 2 q.0) ∙ e)) }
 
 -- ---- no more functions than bytes
 

@@ -49,16 +49,7 @@ pub fn graph(
     ensures { Graphs file.now units.old live.old graph.old copies.old result units.new live.new
         graph.new copies.new }
 {
-    if units.len() < 512 {
-        return Err(Refusal::Short);
-    }
-    if live.len() < 2048 {
-        return Err(Refusal::Short);
-    }
-    if graph.len() < 1024 {
-        return Err(Refusal::Short);
-    }
-    if copies.len() < 1024 {
+    if units.len() < 512 || live.len() < 2048 || graph.len() < 1024 || copies.len() < 1024 {
         return Err(Refusal::Short);
     }
     graph_in(

@@ -215,13 +215,7 @@ fn take_function(
 fn at_function(file: &[u8], at: usize) -> bool
     ensures { FunctionNext file.now at result }
 {
-    if file.len() <= at {
-        return false;
-    }
-    if file.len() - at < 2 {
-        return false;
-    }
-    file[at] == 2
+    matches!(file.get(at..), Some([2, _, ..]))
 }
 
 // The cursor behind a function's record.

@@ -102,10 +102,7 @@ pub fn live(
 ) -> Result<usize, Refusal>
     ensures { Lives file.now number units.old live.old result units.new live.new }
 {
-    if units.len() < 512 {
-        return Err(Refusal::Short);
-    }
-    if live.len() < 2048 {
+    if units.len() < 512 || live.len() < 2048 {
         return Err(Refusal::Short);
     }
     live_in(file, number, &mut units[..512], &mut live[..2048])

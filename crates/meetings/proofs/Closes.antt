@@ -7,11 +7,14 @@ use mathlib.Core.List.{List, [], ◌∷◌, ◌++◌}
 use Prim.Native.Nat.{ℕ, zero, suc, ◌+◌, ◌-◌, ◌*◌, ◌≤◌, ◌<◌}
 use native.Mathlib.Omega.{arith}
 use lib.Dec.{eqb, ltb}
-use lib.ListN.{length, take, drop}
+use lib.ListN.{length, drop}
 use lib.Seq.{drop-drop}
 use borrow.Author.Tests.{eq-eqb, ne_eqb}
+use Rattle.std.proofs.Common.{nat_cmp}
+use Rattle.std.specs.Ordering.{ord_max}
+use Rattle.std.proofs.lemmas.Grind.{common_steps}
 use Rattle.rows.specs.Row.{member_at, with_at, row}
-use Rattle.rows.proofs.Rows.{lt_or_ge, length_row}
+use Rattle.rows.proofs.Rows.{lt_or_ge}
 use Rattle.fields.specs.Pick.{pick, pick_yes, pick_no, ◌and◌}
 use Rattle.fields.specs.Record.{Storage, u16_at, storage_in}
 use Rattle.storages.specs.File.{opens_storage, storages_by, declared}
@@ -26,15 +29,6 @@ pub linked_append : (ps qs : List (ℕ × ℕ)) (g : List ℕ) → linked (ps ++
 unfolding linked
 linked_append [] qs g = refl
 linked_append (p ∷ ps) qs g = linked_append ps qs (with_at (with_at g (p.0 * 4) p.1) (p.1 * 4) p.0)
-
--- ---- a row of units
-
-pub row_part : (ws : List ℕ) (base : ℕ) → base + 8 ≤ length ws
-    → (take (base + 8 - base) (drop base ws) ≡ row ws base 8) × (length (take (base + 8 - base) (drop base ws)) ≡ 8)
-unfolding row
-row_part ws base h =
-    let e : base + 8 - base ≡ 8 = omega arith in
-    (ap (λ (k : ℕ). take k (drop base ws)) e, ap (λ (k : ℕ). length (take k (drop base ws))) e ∙ length_row ws base 8 h)
 
 -- ---- one pair
 
@@ -91,6 +85,16 @@ module _ (meets words : List ℕ) (n : ℕ) (start : List ℕ) where
     pub close_end : n ≤ i → now ≡ closed meets words n start
     unfolding meet_pairs linked
     close_end h = let a : n - i ≡ 0 = omega arith in ap (λ (k : ℕ). linked (meet_pairs meets words i k) now) (sym a) ∙ c.same
+
+-- The library's greater of two numbers.
+pub max_left : (a b m : ℕ) → m ≡ ord_max nat_cmp a b → a ≤ m
+max_left a b m e = grind (arith, common_steps)
+
+pub max_right : (a b m : ℕ) → m ≡ ord_max nat_cmp a b → b ≤ m
+max_right a b m e = grind (arith, common_steps)
+
+pub max_below : (a b n m : ℕ) → m ≡ ord_max nat_cmp a b → a ≤ n → b ≤ n → m ≤ n
+max_below a b n m e h k = grind (arith, common_steps)
 
 -- A unit more, of a storage below a number that is no lower.
 pub above_on : (words : List ℕ) (n top i next : ℕ) → Above words n top → i ≡ storage_at words n → top ≤ next → i + 1 ≤ next → Above words (n + 1) next

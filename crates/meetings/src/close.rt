@@ -1,6 +1,6 @@
 // The graph, once every step is noted: each storage with the storages of the units that it meets, and each addressed one with all others of its owner.
 ghost use Rattle.std.specs.Prelude.{◌≡◌, [], ◌+◌, ◌*◌, ◌≤◌, ◌<◌, eqb, ltb, length};
-ghost use Rattle.rows.specs.Row.{row, member_at};
+ghost use Rattle.rows.specs.Row.{member_at};
 ghost use Rattle.fields.specs.Pick.{pick, ◌and◌};
 ghost use Rattle.fields.specs.Record.{storage_in};
 ghost use Rattle.storages.specs.File.{declared};
@@ -13,14 +13,6 @@ use crate::meet::storage_of;
 use crate::members::{low_bit, next_word};
 use fields::bytes::{tail_of, u16_at};
 use storages::opens_storage;
-
-// The row of units at `base`.
-pub fn row_of(words: &[u64], base: usize) -> &[u64]
-    requires { base + 8 ≤ length words.now }
-    ensures { (result.now ≡ row words.now base 8) × (length result.now ≡ 8) }
-{
-    &words[base..base + 8]
-}
 
 // Two storages meet, both ways; one does not meet itself.
 pub fn link(graph: &mut [u64], i: usize, j: usize)
@@ -65,13 +57,6 @@ pub fn close_row(row: &[u64], words: &[u32], graph: &mut [u64], i: usize)
     }
 }
 
-// The number above both.
-fn higher(a: usize, b: usize) -> usize
-    ensures { (a ≤ result) × (b ≤ result) × (a ≤ 256 → b ≤ 256 → result ≤ 256) }
-{
-    if a < b { b } else { a }
-}
-
 // A number above the ids of all storages with units: the others meet nothing.
 pub fn ids_below(words: &[u32], count: usize) -> usize
     requires { (length words.now ≡ 512) × (count ≤ 512) }
@@ -79,7 +64,7 @@ pub fn ids_below(words: &[u32], count: usize) -> usize
 {
     let mut top = 0;
     for n in 0..count {
-        top = higher(top, storage_of(words[n]) + 1);
+        top = top.max(storage_of(words[n]) + 1);
     }
     top
 }
@@ -90,15 +75,8 @@ pub fn close(meets: &[u64], words: &[u32], n: usize, graph: &mut [u64])
     ensures { graph.new ≡ closed meets.now words.now n graph.old }
 {
     for i in 0..n {
-        close_row(row_of(meets, i * 8), words, graph, i);
+        close_row(&meets[i * 8..i * 8 + 8], words, graph, i);
     }
-}
-
-// A number of two bytes as an id.
-fn wide(n: u16) -> usize
-    ensures { result ≡ n }
-{
-    n as usize
 }
 
 // Two storages of one owner meet.
@@ -106,13 +84,9 @@ pub fn link_owned(graph: &mut [u64], id: usize, owner: u16, other: usize, other_
     requires { (length graph.old ≡ 1024) × (id < 256) }
     ensures { graph.new ≡ linked (pick (eqb other_owner owner and ltb other 256) (apart id other) []) graph.old }
 {
-    if other_owner != owner {
-        return;
+    if other_owner == owner && other < 256 {
+        link(graph, id, other);
     }
-    if 256 <= other {
-        return;
-    }
-    link(graph, id, other);
 }
 
 // The storage `id` with the one that stands at the front of a tail, where they have one owner.
@@ -120,7 +94,13 @@ pub fn hold_pair(tail: &[u8], graph: &mut [u64], id: usize, owner: u16)
     requires { (16 ≤ length tail.now) × (length graph.old ≡ 1024) × (id < 256) }
     ensures { graph.new ≡ linked (own_pair id owner (storage_in tail.now)) graph.old }
 {
-    link_owned(graph, id, owner, wide(u16_at(tail, 1)), u16_at(tail, 3));
+    link_owned(
+        graph,
+        id,
+        owner,
+        usize::from(u16_at(tail, 1)),
+        u16_at(tail, 3),
+    );
 }
 
 // The storage `id` with every other of its owner.
@@ -141,10 +121,7 @@ pub fn hold_one(file: &[u8], addressed: &[u64], graph: &mut [u64], id: usize, ow
     ensures { graph.new ≡ linked (pick (ltb id 256 and member_at addressed.now 0 id)
         (each (own_pair id owner) (declared file.now)) []) graph.old }
 {
-    if 256 <= id {
-        return;
-    }
-    if rows::has(addressed, 0, id) {
+    if id < 256 && rows::has(addressed, 0, id) {
         hold_all(file, graph, id, owner);
     }
 }
@@ -158,7 +135,7 @@ pub fn hold_at(file: &[u8], tail: &[u8], addressed: &[u64], graph: &mut [u64])
         file,
         addressed,
         graph,
-        wide(u16_at(tail, 1)),
+        usize::from(u16_at(tail, 1)),
         u16_at(tail, 3),
     );
 }

@@ -4,12 +4,14 @@ use lib.Seq.{length-take-le}
 use Rattle.liveness.proofs.Answering.{lives_short_units, lives_short_live, lives_all}
 use borrow.Author.Rules.{rules}
 use Rattle.liveness.proofs.live.Goals as goal
+use Rattle.liveness.proofs.live.Goals.{then-units-lt512-via-then-units-lt512, then-units-lt512-via-else-units-lt512+then-live-lt2048}
 
 pub returns-then-units-lt512 : goal.returns-then-units-lt512
-returns-then-units-lt512 c = lives_short_units _ _ _ _ c.if-units-lt512.true
-
-pub returns-then-live-lt2048 : goal.returns-then-live-lt2048
-returns-then-live-lt2048 c = lives_short_live _ _ _ _ c.if-units-lt512.false c.if-live-lt2048.true
+returns-then-units-lt512 c =
+    elim c.then-units-lt512.branch [
+      | then-units-lt512-via-then-units-lt512 w ↦ lives_short_units _ _ _ _ w.if-units-lt512.true
+      | then-units-lt512-via-else-units-lt512+then-live-lt2048 w ↦ lives_short_live _ _ _ _ w.if-units-lt512.false w.if-live-lt2048.true
+    ]
 
 pub slice_bounds-live_in-end-2 : goal.slice_bounds-live_in-end-2
 slice_bounds-live_in-end-2 c = search (rules, length-take-le)
