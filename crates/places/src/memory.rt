@@ -60,7 +60,8 @@ impl Memory<'_> {
     #[tactic(auto, using(maps::proofs::Laws::fill_length, maps::proofs::Laws::fill_clear, maps::proofs::Laws::set_bit_length, maps::proofs::Laws::set_bit_clear), unfolding(crate::specs::Memory::reserve))]
     pub fn take(&mut self, room: Room)
         requires { Inside (length self.old.app.now) (length self.old.work.now) room }
-        ensures { (record { app = self.new.app.now; wrk = self.new.work.now }) ≡ reserve room (record { app = self.old.app.now; wrk = self.old.work.now }) }
+        ensures taken { (record { app = self.new.app.now; wrk = self.new.work.now }) ≡ reserve room (record { app = self.old.app.now; wrk = self.old.work.now }) }
+        ensures kept { (length self.new.app.now ≡ length self.old.app.now) × (length self.new.work.now ≡ length self.old.work.now) }
     {
         match room {
             Room::Nowhere => {}
