@@ -211,31 +211,3 @@ impl Numbered<'_> {
         }
     }
 }
-
-// The same of the parts, for the walks that take them one by one.
-pub fn uses_at(
-    file: &[u8],
-    numbers: &[u16],
-    table: &[u16],
-    own: Cursor,
-    here: Cursor,
-    reads: &mut [u64],
-    writes: &mut [u64],
-) -> Cursor
-    requires { (length file.now ≤ 16384) × (2341 ≤ length numbers.now) × Sane table.now × Sound own × Sound here × (here.at + 4 ≤ length file.now)
-        × (length reads.old ≡ 8) × (length writes.old ≡ 8) }
-    ensures { Sound result × (here.at + 4 ≤ result.at) × (result.at ≤ length file.now)
-        × (result.at ≡ here.at + 4 + 7 * length (from file.now (here.at + 4)).operands)
-        × ((us : List ℕ) (f : Function) → Ready file.now us numbers.now table.now → StandsAt file.now own
-        → f.abis ≡ (from file.now own.at).abis → StandsAt file.now here → IsStep file.now here.at
-        → (reads.new ≡ unit_row one us (reads_of one (program one file.now) f (step_from file.now here.at)))
-        × (writes.new ≡ unit_row one us (writes_of one (program one file.now) (step_from file.now here.at)))
-        × StandsAt file.now result) }
-{
-    let source = Numbered {
-        file,
-        numbers,
-        table,
-    };
-    source.uses_at(Site { own, here }, reads, writes)
-}
