@@ -20,7 +20,7 @@ pub fn tail_of(file: &[u8], at: usize) -> &[u8]
     &file[at..]
 }
 
-// How long a record is, with its kind byte; 0 for a number that is no kind.
+// How long a record is, with its kind byte; 0 for a number that is no kind, as the definition has it. `whole_record` says None there.
 #[tactic(auto, unfolding(crate::specs::Record::length_of, crate::specs::Record::lengths, crate::specs::Pick::pick))]
 pub fn length_of(kind: u8) -> usize
     ensures { result ≡ length_of one kind }

@@ -49,7 +49,7 @@ static TABLE: [u64; 39] = [
     0x0000000000000052, // Switch
 ];
 
-// The entry of an operation, 0 where there is none.
+// The entry of an operation, 0 where there is none: the entry of a step without fields, which takes no operand.
 pub fn entry_of(op: u8) -> u64
     ensures { result ≡ entry_of (fields_of op) }
 {
@@ -96,7 +96,7 @@ pub fn targets_of(op: u8) -> (u16, u16)
     }
 }
 
-// The field of a number, 0 past the row.
+// The field of a number, 0 past the row, which takes no operand. A shift keeps the row in a register, where an array of its bytes would be stored first.
 #[tactic(auto, using(crate::proofs::TableLaws::byte_shifted, crate::proofs::TableLaws::byte_past))]
 pub fn field_in(row: u64, field: u8) -> u8
     ensures { result ≡ row / 256 ^ field % 256 }

@@ -23,7 +23,7 @@ const ROW: usize = 8;
 // The word where the live-out rows begin.
 const OUT: usize = 1024;
 
-// The operation of an instruction; 255, which is none, for a terminator.
+// The operation of an instruction; 255, which is none, for a terminator, as `operation_at` has it: a step is asked for one operation after another.
 fn instruction_at(file: &[u8], at: usize) -> u8
     requires { at + 4 ≤ length file.now }
     ensures { result ≡ operation_at file.now at }

@@ -32,7 +32,7 @@ impl Setting {
     }
 }
 
-// The lines of a file that was placed: one for each storage, then the counts.
+// The lines of a file that was placed: one for each storage, then the counts, which are three numbers here since this crate stands beside the allocator.
 pub fn put_done<const ROOM: usize>(
     page: &mut ArrayVec<u8, ROOM>,
     bytes: &[u8; 2048],

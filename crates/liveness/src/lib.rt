@@ -22,7 +22,7 @@ use records::{Refusal, number_units};
 use units::cursor::Cursor;
 use units::numbered::Numbered;
 
-// What the table of functions has for a number of no function.
+// What the table of functions has for a number of no function. The table is lent as bare numbers, and `Owned` speaks of them.
 const NONE: usize = 65535;
 
 // The cursor behind the record of a function; its place is NONE where there is no such function.

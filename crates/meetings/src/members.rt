@@ -15,18 +15,16 @@ pub fn next_word(row: &[u64], from: usize) -> usize
     requires { from ≤ length row.now }
     ensures { Filled row.now from result }
 {
-    let mut at = from;
-    while at < row.len() {
+    for at in from..row.len() {
         if row[at] != 0 {
             return at;
         }
-        at += 1;
     }
-    at
+    row.len()
 }
 
 // The first number of a row of 8 words or fewer, at or above `from`; where there is none, the number just past its words, which is 512 for a row of units.
-// Every walk over a row's members goes by it.
+// `Members` goes by it, and a number at each place lets it compare with 512 alone.
 pub fn next_member(row: &[u64], from: usize) -> usize
     requires { (length row.now ≤ 8) × (from ≤ 64 * length row.now) }
     ensures { First row.now from result }

@@ -56,7 +56,7 @@ impl Memory<'_> {
         }
     }
 
-    // Takes the room.
+    // Takes the room. Each arm names its map, since one that a method lends would leave the facts of the struct behind.
     #[tactic(auto, using(maps::proofs::Laws::fill_length, maps::proofs::Laws::fill_clear, maps::proofs::Laws::set_bit_length, maps::proofs::Laws::set_bit_clear), unfolding(crate::specs::Memory::reserve))]
     pub fn take(&mut self, room: Room)
         requires { Inside (length self.old.app.now) (length self.old.work.now) room }

@@ -83,6 +83,7 @@ impl Notes<'_> {
     {
         let named = c.named;
         let units = c.units;
+        // The lent numbers have this one for no unit, as `no_unit` says.
         self.numbers[named] = 65535;
         Ok(after_number(c, units, named + 1))
     }

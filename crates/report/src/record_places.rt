@@ -2,7 +2,7 @@
 ghost use Rattle.std.specs.Prelude.{◌<◌, ◌≤◌, ◌-◌, length};
 ghost use Rattle.std.specs.Iterator.{at_most};
 
-use fields::bytes::{length_of, u16_at};
+use fields::bytes::{tail_of, u16_at, whole_record};
 
 // The kinds that a report tells apart. A step is an instruction or a terminator, and an operand or a
 // target is a part of one.
@@ -56,11 +56,10 @@ impl<'a> Record<'a> {
     fn next_place(&self) -> usize
         ensures { (self.now.place < result) × (result ≤ length self.now.file.now) }
     {
-        let length = length_of(self.file[self.place]);
-        if length == 0 || self.file.len() - self.place < length {
-            return self.file.len();
+        match whole_record(tail_of(self.file, self.place)) {
+            Some(length) => self.place + length,
+            None => self.file.len(),
         }
-        self.place + length
     }
 
     // The records behind this one.

@@ -22,7 +22,7 @@ fn opens(s: Storage, p: Placement) -> Option<Placement>
     if tries_slots(s) { Some(p) } else { None }
 }
 
-// The number of the slot that a storage opens: the next one, or 256 if it may not share.
+// The number of the slot that a storage opens: the next one, or 256 if it may not share. A cell of the ledger is a number, and `Kept` speaks of it so.
 #[tactic(auto, unfolding(fields::specs::Pick::pick))]
 fn number_for(n: usize, s: Storage) -> usize
     ensures { result ≡ pick (tries s) n 256 }

@@ -120,7 +120,7 @@ fn operand_rows(
     n - k
 }
 
-// The cursor behind the record of function n; far behind every file where there is none.
+// The cursor behind the record of function n; far behind every file where there is none, so that no ABI record is found there, as `callee_in` has it.
 fn callee_at(source: Numbered, n: u8) -> Cursor
     ensures { (result ≡ callee_in source.entry.table.now n) × Sound result }
 {
