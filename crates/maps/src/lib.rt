@@ -20,6 +20,7 @@ pub fn next_clear(map: &[u8], from: usize) -> usize
 
 // The least offset from which n bytes are clear. No window over a byte that is not 0 is, so that the search begins at `from`, below which there are such bytes
 // only, and goes on at the next clear one. A window of no bytes is at offset 0.
+// The inner loop counts by hand, so that a hit leaves both loops from inside it.
 pub fn first_clear(map: &[u8], from: usize, n: usize) -> Option<usize>
     requires { TakenBelow map.now from }
     ensures { (result ≡ first_window n map.now) × FoundIn (length map.now) result }
@@ -29,16 +30,20 @@ pub fn first_clear(map: &[u8], from: usize, n: usize) -> Option<usize>
         if map.len() <= o {
             break 'search None;
         }
-        for k in 0..n {
+        let mut k = 0;
+        loop {
+            if k == n {
+                break 'search Some(o);
+            }
             if map.len() <= o + k {
                 break 'search None;
             }
             if map[o + k] != 0 {
-                o = next_clear(map, o + k + 1);
-                continue 'search;
+                break;
             }
+            k += 1;
         }
-        break 'search Some(o);
+        o = next_clear(map, o + k + 1);
     }
 }
 

@@ -4,6 +4,7 @@ use Rattle.std.specs.Prelude.{Some, None}
 use mathlib.Core.Path.{sym, subst}
 use Prim.Native.Nat.{◌+◌, ◌≤◌, ◌<◌}
 use native.Mathlib.Omega.{arith}
+use borrow.Author.Count.{below_none, below_more}
 use lib.ListN.{length}
 use Rattle.maps.proofs.Laws.{Clear, NoneBefore, clear_in, none_taken, none_behind, none_until, none_short, window_only}
 use Rattle.maps.proofs.first_clear.Goals as goal
@@ -16,21 +17,30 @@ search-init c =
       | else-n-eq0 w ↦ subst (NoneBefore c.args.n c.args.map.now) (sym w.o-is) (none_taken _ _ _ (omega (arith, w.if-n-eq0.false)) c.requires)
     ]
 
+pub loop-k-init : goal.loop-k-init
+loop-k-init c = (omega arith, omega arith, below_none _)
+
+pub loop-k-preserved : goal.loop-k-preserved
+loop-k-preserved c = (omega arith, omega arith, below_more _ _ c.loop-k.invariant.2 c.if-map-o-ne0.false)
+
+pub search-smaller : goal.search-smaller
+search-smaller c = omega (arith, c.next_clear-o.ensures.behind)
+
 pub search-preserved : goal.search-preserved
 search-preserved c =
-    none_until _ _ _ _ (omega arith) (none_behind _ _ _ _ c.loop-k.invariant.1 c.loop-k-test.true c.if-map-o-ne0.true) c.next_clear-o.ensures
+    none_until _ _ _ _ (omega arith) (none_behind _ _ _ _ c.search.invariant (omega arith) c.if-map-o-ne0.true) c.next_clear-o.ensures
 
 pub returns-then-map-o : goal.returns-then-map-o
 returns-then-map-o c = (window_only _ _ None (λ j l. c.search.invariant j (omega arith)), tt)
 
-pub returns-then-map-o-2 : goal.returns-then-map-o-2
-returns-then-map-o-2 c = (window_only _ _ None (none_short _ _ _ c.loop-k.invariant.1 (omega arith)), tt)
-
-pub returns-after-loop-k : goal.returns-after-loop-k
-returns-after-loop-k c =
+pub returns-then-k-n : goal.returns-then-k-n
+returns-then-k-n c =
     let a = c.args in
-    let o = c.loop-k.o in
-    let clear : Clear a.map.now a.n o = λ j l. c.loop-k.invariant.3 j (omega arith) in
+    let o = c.search.o in
+    let clear : Clear a.map.now a.n o = λ j l. c.loop-k.invariant.2 j (omega arith) in
     let fits : o + a.n ≤ length a.map.now = omega arith in
     let inside : o < length a.map.now = omega arith in
-    (window_only _ _ (Some o) (fits, clear_in _ _ _ fits clear, c.loop-k.invariant.1, inside), inside)
+    (window_only _ _ (Some o) (fits, clear_in _ _ _ fits clear, c.search.invariant, inside), inside)
+
+pub returns-then-map-o-2 : goal.returns-then-map-o-2
+returns-then-map-o-2 c = (window_only _ _ None (none_short _ _ _ c.search.invariant (omega arith)), tt)
