@@ -9,9 +9,6 @@ use borrow.Author.Rules.{rules}
 use Rattle.std.proofs.lemmas.Result.{err_from_is_err_and}
 use Rattle.fields.specs.Pick.{pick}
 use Rattle.storages.specs.Storage.{tries}
-use Rattle.storages.specs.declared.Space.TheVariants.{App, Work}
-use Rattle.places.specs.Memory.{Maps}
-use Rattle.places.proofs.Rooms.{reserve_length}
 use Rattle.places.specs.Legal.{Inside}
 use Rattle.places.specs.Place.{take_room}
 use Rattle.turns.proofs.Noting.{number_low, taken_turned}
@@ -40,9 +37,8 @@ returns-clause-turned c =
     λ g x lo hi h.
     taken_turned c.args.s x _ _ _ _ _ _ _ _ _ h li lk ln c.requires.room c.requires.own.0 _ _ _ _ _ c.in_ok-p.p
     n.ids n.kin n.numbers n.records _ _ _ c.args.slots.now.long (c.number_for.ensures ∙ ap (λ (n : ℕ). pick (tries c.args.s) n 256) c.len.ensures.0)
-    c.room_of.ensures c.take.ensures _ _
+    c.room_of.ensures c.take.ensures.taken _ _
     (ap (take_room c.args.s x) (chosen_is c.args.s _ _ g x _ _ h.app_is h.wrk_is (c.choose.ensures g lo hi) c.in_ok-p.was)) (ap Ok c.opens.ensures)
 
 pub returns-clause-kept : goal.returns-clause-kept
-returns-clause-kept c =
-    (ap (λ (m : Maps). length m.app) c.take.ensures ∙ reserve_length _ c.room_of.result App, ap (λ (m : Maps). length m.wrk) c.take.ensures ∙ reserve_length _ c.room_of.result Work)
+returns-clause-kept c = c.take.ensures.kept
