@@ -8,7 +8,7 @@ ghost use Rattle.places.specs.Memory.{clear_room, Solid};
 ghost use Rattle.places.specs.Legal.{Small, FixedSmall};
 ghost use Rattle.places.specs.Place.{Given, fitted, name_bit, name_bytes, work_bit, app_bit, choose_bit, work_bytes, app_bytes, choose_bytes, choose_free, choose_fixed, choose};
 
-use crate::memory::Memory;
+use crate::memory::{Memory, is_clear};
 use maps::{first_clear, high_bit};
 use records::Refusal;
 use storages::{
@@ -82,41 +82,63 @@ fn sits_in_flag(s: Storage) -> bool
     s.kind == 3 && allows_region(s, 1)
 }
 
+// A bit in the work map.
+#[tactic(auto, using(crate::proofs::Choosing::bit_below), unfolding(crate::specs::Place::work_bit, fields::specs::Pick::pick))]
+fn work_bit(s: Storage, work: &[u8]) -> Result<Placement, Refusal>
+    requires { length work.now ≤ 512 }
+    ensures { result ≡ work_bit s work.now }
+{
+    if !allows_work(s) {
+        return Err(Refusal::NoPlace(s.id as usize));
+    }
+    name_bit(s, high_bit(work, 0, work.len()))
+}
+
+// A bit: application RAM first, whether or not the storage must be direct. Bytes lo to hi - 1 of it are looked through.
+#[tactic(auto, using(crate::proofs::Choosing::bit_below), unfolding(crate::specs::Place::choose_bit, fields::specs::Pick::pick))]
+pub fn choose_bit(
+    s: Storage,
+    app: &[u8],
+    work: &[u8],
+    lo: usize,
+    hi: usize,
+) -> Result<Placement, Refusal>
+    requires { (hi ≤ length app.now) × (length app.now ≤ 256) × (length work.now ≤ 512) }
+    ensures { (g : Given) → g.lo ≡ lo → g.hi ≡ hi → result ≡ choose_bit g s (record { app = app.now; wrk = work.now }) }
+{
+    if !allows_region(s, 2) {
+        return work_bit(s, work);
+    }
+    match high_bit(app, lo, hi) {
+        None => work_bit(s, work),
+        Some((offset, bit)) => {
+            let (o, b) = (offset as u16, bit as u16);
+            fit(
+                s.id,
+                0,
+                bit,
+                Placement::ApplicationBit { offset: o, bit: b },
+            )
+        }
+    }
+}
+
+// A storage at its fixed place, whose room must be clear and large enough.
+#[tactic(auto, unfolding(crate::specs::Place::choose_fixed, fields::specs::Pick::pick))]
+pub fn choose_fixed(s: Storage, p: Placement, app: &[u8], work: &[u8]) -> Result<Placement, Refusal>
+    requires { Small (room s.len p) }
+    ensures { result ≡ choose_fixed s p (record { app = app.now; wrk = work.now }) }
+{
+    if !kind_matches(s.kind, s.len, code_of(p)) {
+        Err(Refusal::BadFixed(s.id as usize))
+    } else if is_clear(app, work, room_of(s.len, p)) && is_alone(s.len, p) {
+        Ok(p)
+    } else {
+        Err(Refusal::Conflict(s.id as usize))
+    }
+}
+
 impl Memory<'_> {
-    // A bit in the work map.
-    #[tactic(auto, using(crate::proofs::Choosing::bit_below), unfolding(crate::specs::Place::work_bit, fields::specs::Pick::pick))]
-    fn work_bit(&self, s: Storage) -> Result<Placement, Refusal>
-        ensures { result ≡ work_bit s self.now.work.now }
-    {
-        if !allows_work(s) {
-            return Err(Refusal::NoPlace(s.id as usize));
-        }
-        name_bit(s, high_bit(self.work, 0, self.work.len()))
-    }
-
-    // A bit: application RAM first, whether or not the storage must be direct.
-    #[tactic(auto, unfolding(crate::specs::Place::choose_bit, fields::specs::Pick::pick))]
-    pub fn choose_bit(&self, s: Storage) -> Result<Placement, Refusal>
-        ensures { (g : Given) → g.lo ≡ 0 → g.hi ≡ length self.now.app.now
-            → result ≡ choose_bit g s (record { app = self.now.app.now; wrk = self.now.work.now }) }
-    {
-        if !allows_region(s, 2) {
-            return self.work_bit(s);
-        }
-        match high_bit(self.app, 0, self.app.len()) {
-            None => self.work_bit(s),
-            Some((offset, bit)) => {
-                let (o, b) = (offset as u16, bit as u16);
-                fit(
-                    s.id,
-                    0,
-                    bit,
-                    Placement::ApplicationBit { offset: o, bit: b },
-                )
-            }
-        }
-    }
-
     // Bytes after application RAM: Flash, then the work map.
     #[tactic(auto, using(crate::proofs::Choosing::found_below), unfolding(crate::specs::Place::work_bytes, fields::specs::Pick::pick))]
     fn work_bytes(&self, s: Storage) -> Result<Placement, Refusal>
@@ -148,46 +170,31 @@ impl Memory<'_> {
         }
     }
 
-    // A storage that is not fixed.
+    // A storage that is not fixed. A bit is looked for in bytes lo to hi - 1 of application RAM.
     #[tactic(auto, unfolding(crate::specs::Place::choose_free, fields::specs::Pick::pick))]
-    pub fn choose_free(&self, s: Storage) -> Result<Placement, Refusal>
-        ensures { (g : Given) → g.lo ≡ 0 → g.hi ≡ length self.now.app.now
-            → result ≡ choose_free g s (record { app = self.now.app.now; wrk = self.now.work.now }) }
+    pub fn choose_free(&self, s: Storage, lo: usize, hi: usize) -> Result<Placement, Refusal>
+        requires { hi ≤ length self.now.app.now }
+        ensures { (g : Given) → g.lo ≡ lo → g.hi ≡ hi → result ≡ choose_free g s (record { app = self.now.app.now; wrk = self.now.work.now }) }
     {
         if sits_in_flag(s) {
             Ok(Placement::CarryFlag)
         } else if takes_bit(s.kind) {
-            self.choose_bit(s)
+            choose_bit(s, self.app, self.work, lo, hi)
         } else {
             self.choose_bytes(s)
         }
     }
 
-    // A storage at its fixed place, whose room must be clear and large enough.
-    #[tactic(auto, unfolding(crate::specs::Place::choose_fixed, fields::specs::Pick::pick))]
-    pub fn choose_fixed(&self, s: Storage, p: Placement) -> Result<Placement, Refusal>
-        requires { Small (room s.len p) }
-        ensures { result ≡ choose_fixed s p (record { app = self.now.app.now; wrk = self.now.work.now }) }
-    {
-        if !kind_matches(s.kind, s.len, code_of(p)) {
-            Err(Refusal::BadFixed(s.id as usize))
-        } else if self.is_clear(room_of(s.len, p)) && is_alone(s.len, p) {
-            Ok(p)
-        } else {
-            Err(Refusal::Conflict(s.id as usize))
-        }
-    }
-
     // A place of its own for a storage.
     #[tactic(auto, unfolding(crate::specs::Place::choose))]
-    pub fn choose(&self, s: Storage) -> Result<Placement, Refusal>
-        requires { FixedSmall s.len s.fixed }
-        ensures { (g : Given) → g.lo ≡ 0 → g.hi ≡ length self.now.app.now
-            → result ≡ choose g s (record { app = self.now.app.now; wrk = self.now.work.now }) }
+    pub fn choose(&self, s: Storage, lo: usize, hi: usize) -> Result<Placement, Refusal>
+        requires room { hi ≤ length self.now.app.now }
+        requires small { FixedSmall s.len s.fixed }
+        ensures { (g : Given) → g.lo ≡ lo → g.hi ≡ hi → result ≡ choose g s (record { app = self.now.app.now; wrk = self.now.work.now }) }
     {
         match s.fixed {
-            None => self.choose_free(s),
-            Some(p) => self.choose_fixed(s, p),
+            None => self.choose_free(s, lo, hi),
+            Some(p) => choose_fixed(s, p, self.app, self.work),
         }
     }
 }

@@ -24,38 +24,38 @@ pub struct Memory<'a> {
     pub ghost solid: { Solid floor app.now work.now },
 }
 
+// The map of a space.
+fn map_of<'m>(app: &'m [u8], work: &'m [u8], space: Space) -> &'m [u8]
+    ensures { result.now ≡ map_of space (record { app = app.now; wrk = work.now }) }
+{
+    match space {
+        Space::App => app,
+        Space::Work => work,
+    }
+}
+
+// Is the room inside its memory, and clear?
+#[tactic(auto, unfolding(crate::specs::Memory::clear_room))]
+pub fn is_clear(app: &[u8], work: &[u8], room: Room) -> bool
+    requires { Small room }
+    ensures { result ≡ clear_room (record { app = app.now; wrk = work.now }) room }
+{
+    match room {
+        Room::Nowhere => true,
+        Room::Bytes {
+            space,
+            offset,
+            count,
+        } => clear_bytes(map_of(app, work, space), offset as usize, count as usize),
+        Room::OneBit { space, offset, bit } => clear_bit(
+            map_of(app, work, space),
+            offset as usize,
+            bit as usize,
+        ),
+    }
+}
+
 impl Memory<'_> {
-    // The map of a space.
-    fn map(&self, space: Space) -> &[u8]
-        ensures { result.now ≡ map_of space (record { app = self.now.app.now; wrk = self.now.work.now }) }
-    {
-        match space {
-            Space::App => self.app,
-            Space::Work => self.work,
-        }
-    }
-
-    // Is the room inside its memory, and clear?
-    #[tactic(auto, unfolding(crate::specs::Memory::clear_room))]
-    pub fn is_clear(&self, room: Room) -> bool
-        requires { Small room }
-        ensures { result ≡ clear_room (record { app = self.now.app.now; wrk = self.now.work.now }) room }
-    {
-        match room {
-            Room::Nowhere => true,
-            Room::Bytes {
-                space,
-                offset,
-                count,
-            } => clear_bytes(self.map(space), offset as usize, count as usize),
-            Room::OneBit { space, offset, bit } => clear_bit(
-                self.map(space),
-                offset as usize,
-                bit as usize,
-            ),
-        }
-    }
-
     // Takes the room. Each arm names its map, since one that a method lends would leave the facts of the struct behind.
     #[tactic(auto, using(maps::proofs::Laws::fill_length, maps::proofs::Laws::fill_clear, maps::proofs::Laws::set_bit_length, maps::proofs::Laws::set_bit_clear), unfolding(crate::specs::Memory::reserve))]
     pub fn take(&mut self, room: Room)

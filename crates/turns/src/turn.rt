@@ -46,7 +46,7 @@ fn take_own(
     ensures kept { (length memory.new.app.now ≡ length memory.old.app.now) × (length memory.new.work.now ≡ length memory.old.work.now) }
     ensures noted { IfOk result (λ _. ledger.new.count ≡ ledger.old.count + 1) }
 {
-    let p = memory.choose(s)?;
+    let p = memory.choose(s, 0, memory.app.len())?;
     memory.take(room_of(s.len, p));
     ledger.note(s, number_for(slots.len(), s), p);
     Ok(opens(s, p))
