@@ -12,6 +12,7 @@ pub struct Sketch {
 }
 
 impl Sketch {
+    #[inline(always)]
     pub fn new() -> Self
         ensures { Fresh result }
     {

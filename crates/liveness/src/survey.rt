@@ -53,6 +53,7 @@ pub struct Findings {
 }
 
 impl Findings {
+    #[inline(always)]
     pub fn new() -> Self {
         Findings {
             gens: [0; 1024],
