@@ -161,6 +161,7 @@ fn cuts(stage: Stage, kind: u8) -> bool
     }
 }
 
+// What a record takes is compiled into the reader's loop: called, each function would hand the reader over in memory.
 impl Notes<'_> {
     #[tactic(auto, using(crate::proofs::Steps::judged, crate::proofs::Steps::storage_laws), unfolding(fields::specs::Record::storage_in))]
     fn take_storage(&mut self, c: Reader, tail: &[u8], at: usize) -> Result<Reader, Refusal>
