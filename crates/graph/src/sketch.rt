@@ -12,6 +12,8 @@ pub struct Sketch {
 }
 
 impl Sketch {
+    // A sketch of no step, made where it stays.
+    #[inline(always)]
     pub fn new() -> Self
         ensures { Fresh result }
     {

@@ -53,6 +53,8 @@ pub struct Findings {
 }
 
 impl Findings {
+    // All is 0 at first. What is so large is made where it stays.
+    #[inline(always)]
     pub fn new() -> Self {
         Findings {
             gens: [0; 1024],

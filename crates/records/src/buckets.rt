@@ -29,6 +29,7 @@ pub fn bucket_of(word: u32) -> usize
 impl Notes<'_> {
     // The number of a unit's word.
     #[tactic(auto, using(crate::proofs::Chains::seek_found, crate::proofs::Chains::seek_none))]
+    #[inline(always)]
     pub fn find(&self, word: u32) -> Option<usize>
         requires { (length self.now.words.now ≡ 512) × Low self.now.heads self.now.nexts }
         ensures low { IfSome result (λ number. number < 512) }

@@ -32,6 +32,7 @@ fn after_number(c: Reader, units: usize, named: usize) -> Reader
 impl Notes<'_> {
     // A word's number is noted: its own, or the next one.
     #[tactic(auto, using(crate::proofs::Comings::word_full, crate::proofs::Lists::found_none, crate::proofs::Held::units_of_lem))]
+    #[inline(always)]
     fn admit_word(&mut self, c: Reader, word: u32, at: usize) -> Result<Reader, Refusal>
         requires { Ready c self.old }
         ensures keeps { Keeps self.old self.new }
@@ -56,6 +57,7 @@ impl Notes<'_> {
     }
 
     #[tactic(auto, using(crate::proofs::Comings::unit_declared, crate::proofs::Comings::unit_undeclared, crate::proofs::Held::declared_is))]
+    #[inline(always)]
     pub fn admit_unit(
         &mut self,
         c: Reader,
@@ -76,6 +78,7 @@ impl Notes<'_> {
     }
 
     // An immediate names no unit.
+    #[inline(always)]
     pub fn admit_immediate(&mut self, c: Reader) -> Result<Reader, Refusal>
         requires { c.named < length self.old.numbers.now }
         ensures keeps { Keeps self.old self.new }

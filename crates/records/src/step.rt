@@ -161,6 +161,7 @@ fn cuts(stage: Stage, kind: u8) -> bool
     }
 }
 
+// What a record takes is compiled into the reader's loop: called, each function would hand the reader over in memory.
 impl Notes<'_> {
     #[tactic(auto, using(crate::proofs::Steps::judged, crate::proofs::Steps::storage_laws), unfolding(fields::specs::Record::storage_in))]
     fn take_storage(&mut self, c: Reader, tail: &[u8], at: usize) -> Result<Reader, Refusal>
@@ -204,6 +205,7 @@ impl Notes<'_> {
     }
 
     #[tactic(auto, using(crate::proofs::Steps::judged, crate::proofs::Comings::unit_as), unfolding(fields::specs::Record::abi_in, fields::specs::Record::u8_at, crate::specs::Step::admit))]
+    #[inline(always)]
     fn take_abi(&mut self, c: Reader, tail: &[u8], at: usize) -> Result<Reader, Refusal>
         requires { (7 ≤ length tail.now) × Sane c at self.old }
         ensures keeps { Keeps self.old self.new }
@@ -239,6 +241,7 @@ impl Notes<'_> {
     }
 
     #[tactic(auto, using(crate::proofs::Steps::judged, crate::proofs::Steps::operand_laws), unfolding(fields::specs::Record::operand_in, fields::specs::Record::u8_at))]
+    #[inline(always)]
     fn take_operand(&mut self, c: Reader, tail: &[u8], at: usize) -> Result<Reader, Refusal>
         requires { (7 ≤ length tail.now) × Sane c at self.old }
         ensures keeps { Keeps self.old self.new }
@@ -259,6 +262,7 @@ impl Notes<'_> {
 
     // The record of a kind that names no unit.
     #[tactic(auto, using(crate::proofs::Steps::by_kind), unfolding(fields::specs::Record::header_at, fields::specs::Record::instruction_at, fields::specs::Record::terminator_at, fields::specs::Record::length_of, fields::specs::Record::lengths, fields::specs::Pick::pick))]
+    #[inline(always)]
     fn take_plain(&mut self, c: Reader, kind: u8, tail: &[u8], at: usize) -> Result<Reader, Refusal>
         requires { (length_of one kind ≤ length tail.now) × (kind < 10) × (kind ≡ 3 → ⊥) × (kind ≡ 6 → ⊥) × Sane c at self.old }
         ensures lent { Lent self.old self.new }
@@ -280,6 +284,7 @@ impl Notes<'_> {
 
     // A record that is no operand: first whether what came before it is complete.
     #[tactic(auto, using(crate::proofs::Steps::by_kind, crate::proofs::Steps::step_laws), unfolding(fields::specs::Record::length_of, fields::specs::Record::lengths, fields::specs::Pick::pick))]
+    #[inline(always)]
     fn step_other(&mut self, c: Reader, kind: u8, tail: &[u8], at: usize) -> Result<Reader, Refusal>
         requires { (length_of one kind ≤ length tail.now) × (kind < 10) × (kind ≡ 6 → ⊥) × Sane c at self.old }
         ensures lent { Lent self.old self.new }
@@ -302,6 +307,7 @@ impl Notes<'_> {
 
     // The record at the front of a tail. An operand belongs to what is open and leaves no block, so that nothing before it needs a test.
     #[tactic(auto, using(crate::proofs::Steps::by_kind, crate::proofs::Steps::step_laws), unfolding(fields::specs::Record::length_of, fields::specs::Record::lengths, fields::specs::Pick::pick))]
+    #[inline(always)]
     pub fn step_on(
         &mut self,
         c: Reader,

@@ -94,6 +94,7 @@ pub fn walk(slots: &[Slot], s: Storage, free: &[u64], chosen: &[u64]) -> Option<
 
 impl Slots {
     // No slot is open at first.
+    #[inline(always)]
     pub fn new() -> Self
         ensures { (result.list ≡ replicate 256 no_slot) × (result.count ≡ 0) }
     {

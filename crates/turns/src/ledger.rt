@@ -51,6 +51,7 @@ fn link(kin: &mut [u16], i: usize, key: usize)
 
 impl Ledger {
     // Nothing is placed at first.
+    #[inline(always)]
     pub fn new() -> Self
         ensures { (result.kin ≡ replicate 512 0) × (result.records ≡ replicate 2048 0) × (result.count ≡ 0) }
     {
