@@ -1,6 +1,6 @@
 -- The walk over a lent list by the marks of its slots. Bits are visited from the lowest, and a slot that does not suit loses its bit: so a marked slot
 -- below the lowest bit that is left does not suit, and the first that suits is found. Word after word that is the first of the list.
-use Rattle.std.proofs.Common.{◌≡◌, ◌≢◌, ℕ, zero, suc, ◌+◌, ◌-◌, ◌*◌, ◌^◌, ◌%◌, ◌≤◌, ◌<◌, Bool, true, false, List, min, length, get_or, Some, None, refl, sym, ap, ap₂, subst, ◌∙◌, arith}
+use Rattle.std.proofs.Common.{◌≡◌, ◌≢◌, ℕ, zero, suc, ◌+◌, ◌-◌, ◌*◌, ◌^◌, ◌%◌, ◌≤◌, ◌<◌, Bool, true, false, List, min, length, get_or, Some, None, refl, sym, ap, ap₂, ◌∙◌, arith}
 use mathlib.Core.Logic.{◌⊎◌, inl, inr}
 use native.Mathlib.Decide.{ℕ_discrete}
 use Rattle.std.specs.Int.{bit_at, w64, bit_not, trailing_zeros}
@@ -31,19 +31,19 @@ unfolding bit digit
 same_bit m n i e = ap (λ (d : ℕ). eqb d 1) e
 
 -- What is left of a word's marks: each is one of them, and a marked slot whose bit is gone does not suit.
-pub record Walked (s : Storage) (ts : List Slot) (base marks left : ℕ) : Type 0 where
+pub record Walked (s : Storage) (ts : List Slot) (base word marks left : ℕ) : Type 0 where
   pub marked : (j : ℕ) → bit left j ≡ true → bit marks j ≡ true
-  pub gone : (j : ℕ) → j < 64 → bit marks j ≡ true → base + j < length ts → (bit left j ≡ true) ⊎ (suits s (get_or ts (base + j) no_slot) ≡ false)
+  pub gone : (j i : ℕ) → j < 64 → bit marks j ≡ true → base + i ≡ word + j → i < length ts → (bit left j ≡ true) ⊎ (suits s (get_or ts i no_slot) ≡ false)
 
-pub walk_start : (s : Storage) (ts : List Slot) (base marks : ℕ) → Walked s ts base marks marks
-walk_start s ts base marks = record { marked = λ j e. e; gone = λ j h e l. inl e }
+pub walk_start : (s : Storage) (ts : List Slot) (base word marks : ℕ) → Walked s ts base word marks marks
+walk_start s ts base word marks = record { marked = λ j e. e; gone = λ j i h e q l. inl e }
 
-module _ {s : Storage} {ts : List Slot} {base marks left : ℕ} (v : Walked s ts base marks left) where
+module _ {s : Storage} {ts : List Slot} {base word marks left : ℕ} (v : Walked s ts base word marks left) where
   -- No bit is left.
-  pub walk_end : left ≡ 0 → NoneMarked s ts base marks 64
-  walk_end z j h e l = go (v.gone j h e l)
+  pub walk_end : left ≡ 0 → NoneMarked s ts base word marks 64
+  walk_end z j i h e q l = go (v.gone j i h e q l)
     where
-      go : (bit left j ≡ true) ⊎ (suits s (get_or ts (base + j) no_slot) ≡ false) → suits s (get_or ts (base + j) no_slot) ≡ false
+      go : (bit left j ≡ true) ⊎ (suits s (get_or ts i no_slot) ≡ false) → suits s (get_or ts i no_slot) ≡ false
       go (inl b) = let one = bit_set left j b in absurd (omega (arith, one, ap (λ (n : ℕ). bit_at n j) z, bit_at-zero j))
       go (inr f) = f
 
@@ -55,19 +55,19 @@ module _ {s : Storage} {ts : List Slot} {base marks left : ℕ} (v : Walked s ts
     low = lowest.0
 
     -- Below the lowest bit that is left nothing suits.
-    below : NoneMarked s ts base marks t
-    below j h e l = go (v.gone j (omega (arith, low)) e l)
+    below : NoneMarked s ts base word marks t
+    below j i h e q l = go (v.gone j i (omega (arith, low)) e q l)
       where
-        go : (bit left j ≡ true) ⊎ (suits s (get_or ts (base + j) no_slot) ≡ false) → suits s (get_or ts (base + j) no_slot) ≡ false
+        go : (bit left j ≡ true) ⊎ (suits s (get_or ts i no_slot) ≡ false) → suits s (get_or ts i no_slot) ≡ false
         go (inl b) = absurd (omega (arith, bit_set left j b, lowest.2 j h))
         go (inr f) = f
 
-    pub walk_past : (k : ℕ) → k ≡ base + t → length ts ≤ k → NoneMarked s ts base marks 64
-    walk_past k q past j h e l = below j (omega arith) e l
+    pub walk_past : (k : ℕ) → base + k ≡ word + t → length ts ≤ k → NoneMarked s ts base word marks 64
+    walk_past k p past j i h e q l = below j i (omega arith) e q l
 
-    pub walk_found : (k : ℕ) (d : Slot) (r : Bool) → k ≡ base + t → k < length ts → r ≡ suits s (get_or ts k d) → r ≡ true → FirstMarked s ts base marks (Some k)
-    walk_found k d r q l e y =
-        (t, q, low, l, v.marked t (set_bit left t lowest.1), ap (suits s) (inside_same ts k no_slot d l) ∙ sym e ∙ y, below)
+    pub walk_found : (k : ℕ) (d : Slot) (r : Bool) → base + k ≡ word + t → k < length ts → r ≡ suits s (get_or ts k d) → r ≡ true → FirstMarked s ts base word marks (Some k)
+    walk_found k d r p l e y =
+        (t, p, low, l, v.marked t (set_bit left t lowest.1), ap (suits s) (inside_same ts k no_slot d l) ∙ sym e ∙ y, below)
 
     module _ (left' : ℕ) (cleared : left' ≡ bit_and left (bit_not w64 (1 * 2 ^ t % 2 ^ 64))) where
       clear_here : bit_at left' t ≡ 0
@@ -85,23 +85,28 @@ module _ {s : Storage} {ts : List Slot} {base marks left : ℕ} (v : Walked s ts
               let same : left' ≡ left = omega (arith, cleared, and_le_l left (bit_not w64 (1 * 2 ^ t % 2 ^ 64))) in
               absurd (omega (arith, lowest.1, clear_here, ap (λ (m : ℕ). bit_at m t) same))
 
-      pub walk_next : (k : ℕ) (d : Slot) (r : Bool) → k ≡ base + t → k < length ts → r ≡ suits s (get_or ts k d) → r ≡ false → Walked s ts base marks left'
-      walk_next k d r q l e n =
+      -- No slot of the bit suits: it goes.
+      drop : ((i : ℕ) → base + i ≡ word + t → i < length ts → suits s (get_or ts i no_slot) ≡ false) → Walked s ts base word marks left'
+      drop no_suit =
           record {
             marked = λ j b. v.marked j (set_bit left j (omega (arith, bit_set left' j b, bit_at-lt left j, ap (λ (m : ℕ). bit_at m j) cleared, bit_at_and left (bit_not w64 (1 * 2 ^ t % 2 ^ 64)) j)));
-            gone = λ j h b m. go j h b m (ℕ_discrete j t);
+            gone = λ j i h b q l. go j i h b q l (ℕ_discrete j t);
           }
         where
-          no_suit : suits s (get_or ts (base + t) no_slot) ≡ false
-          no_suit = rw (← q) (ap (suits s) (inside_same ts k no_slot d l) ∙ sym e ∙ n)
-
-          go : (j : ℕ) → j < 64 → bit marks j ≡ true → base + j < length ts → Dec (j ≡ t) → (bit left' j ≡ true) ⊎ (suits s (get_or ts (base + j) no_slot) ≡ false)
-          go j h b m (yes z) = inr (rw z no_suit)
-          go j h b m (no z) = still (v.gone j h b m)
+          go : (j i : ℕ) → j < 64 → bit marks j ≡ true → base + i ≡ word + j → i < length ts → Dec (j ≡ t) → (bit left' j ≡ true) ⊎ (suits s (get_or ts i no_slot) ≡ false)
+          go j i h b q l (yes z) = inr (no_suit i (omega arith) l)
+          go j i h b q l (no z) = still (v.gone j i h b q l)
             where
-              still : (bit left j ≡ true) ⊎ (suits s (get_or ts (base + j) no_slot) ≡ false) → (bit left' j ≡ true) ⊎ (suits s (get_or ts (base + j) no_slot) ≡ false)
+              still : (bit left j ≡ true) ⊎ (suits s (get_or ts i no_slot) ≡ false) → (bit left' j ≡ true) ⊎ (suits s (get_or ts i no_slot) ≡ false)
               still (inl y) = inl (same_bit left' left j (clear_other j h z) ∙ y)
               still (inr f) = inr f
+
+      pub walk_next : (k : ℕ) (d : Slot) (r : Bool) → base + k ≡ word + t → k < length ts → r ≡ suits s (get_or ts k d) → r ≡ false → Walked s ts base word marks left'
+      walk_next k d r p l e n = drop (λ i q h. ap (λ (m : ℕ). suits s (get_or ts m no_slot)) (omega arith) ∙ ap (suits s) (inside_same ts k no_slot d l) ∙ sym e ∙ n)
+
+      -- The bit stands for a number below that of the list's first slot.
+      pub walk_under : word + t < base → Walked s ts base word marks left'
+      walk_under u = drop (λ i q h. absurd (omega arith))
 
 -- ---- Word after word
 
@@ -125,51 +130,51 @@ member_bit_at : (row : List ℕ) (w i : ℕ) → i < 64 → member_at row 0 (w *
 unfolding member_at
 member_bit_at row w i h = ap₂ (λ (j b : ℕ). bit (get_or row j 0) b) (omega arith) (omega arith)
 
-module _ (s : Storage) (free chosen : List ℕ) (ts : List Slot) where
+module _ (s : Storage) (free chosen : List ℕ) (ts : List Slot) (base : ℕ) where
   abbrev fits_in : ℕ → Slot → Bool
-  fits_in = passes s free chosen
+  fits_in i = passes s free chosen (base + i)
 
   -- Of the slots whose number is below m none passes.
   abbrev pub Missed : ℕ → Type 0
-  Missed m = (j : ℕ) → j < m → j < length ts → fits_in j (get_or ts j no_slot) ≡ false
+  Missed m = (i : ℕ) → base + i < m → i < length ts → fits_in i (get_or ts i no_slot) ≡ false
 
   module _ (w marks : ℕ) (is : marks ≡ bit_and (get_or free w 0) (get_or chosen w 0)) where
     -- A slot passes that suits and that the word marks.
-    passes_marked : (i : ℕ) (t : Slot) → i < 64 → fits_in (w * 64 + i) t ≡ (suits s t and bit marks i)
+    passes_marked : (i b : ℕ) (t : Slot) → b < 64 → base + i ≡ w * 64 + b → fits_in i t ≡ (suits s t and bit marks b)
     unfolding passes
-    passes_marked i t h =
-        ap₂ (λ (a b : Bool). suits s t and (a and b)) (member_bit_at free w i h) (member_bit_at chosen w i h)
-        ∙ ap (λ (b : Bool). suits s t and b) (sym (bit_both (get_or free w 0) (get_or chosen w 0) i) ∙ ap (λ (m : ℕ). bit m i) (sym is))
+    passes_marked i b t h q =
+        ap (λ (n : ℕ). suits s t and (member_at free 0 n and member_at chosen 0 n)) q
+        ∙ ap₂ (λ (x y : Bool). suits s t and (x and y)) (member_bit_at free w b h) (member_bit_at chosen w b h)
+        ∙ ap (λ (x : Bool). suits s t and x) (sym (bit_both (get_or free w 0) (get_or chosen w 0) b) ∙ ap (λ (m : ℕ). bit m b) (sym is))
 
     -- Below bit b of the word none passes.
-    word_missed : (b : ℕ) → b ≤ 64 → Missed (w * 64) → NoneMarked s ts (w * 64) marks b → Missed (w * 64 + b)
+    word_missed : (b : ℕ) → b ≤ 64 → Missed (w * 64) → NoneMarked s ts base (w * 64) marks b → Missed (w * 64 + b)
     unfolding pick
-    word_missed b few missed none j h l = go (lt_or_ge j (w * 64))
+    word_missed b few missed none i h l = go (lt_or_ge (base + i) (w * 64))
       where
-        at : (i : ℕ) → i < b → w * 64 + i < length ts → (t : Bool) → bit marks i ≡ t → fits_in (w * 64 + i) (get_or ts (w * 64 + i) no_slot) ≡ false
-        at i h l true e = passes_marked i _ (omega arith) ∙ pick_no _ _ _ (none i h e l)
-        at i h l false e =
-            passes_marked i _ (omega arith) ∙ ap (λ (t : Bool). suits s (get_or ts (w * 64 + i) no_slot) and t) e ∙ and_false (suits s (get_or ts (w * 64 + i) no_slot))
+        at : (j : ℕ) → j < b → base + i ≡ w * 64 + j → (t : Bool) → bit marks j ≡ t → fits_in i (get_or ts i no_slot) ≡ false
+        at j h q true e = passes_marked i j _ (omega arith) q ∙ pick_no _ _ _ (none j i h e q l)
+        at j h q false e =
+            passes_marked i j _ (omega arith) q ∙ ap (λ (t : Bool). suits s (get_or ts i no_slot) and t) e ∙ and_false (suits s (get_or ts i no_slot))
 
-        go : (j < w * 64) ⊎ (w * 64 ≤ j) → fits_in j (get_or ts j no_slot) ≡ false
-        go (inl a) = missed j a l
-        go (inr a) =
-            let back : w * 64 + (j - w * 64) ≡ j = omega arith in
-            subst (λ (m : ℕ). fits_in m (get_or ts m no_slot) ≡ false) back (at (j - w * 64) (omega arith) (omega arith) (bit marks (j - w * 64)) refl)
+        go : (base + i < w * 64) ⊎ (w * 64 ≤ base + i) → fits_in i (get_or ts i no_slot) ≡ false
+        go (inl a) = missed i a l
+        go (inr a) = at (base + i - w * 64) (omega arith) (omega arith) (bit marks (base + i - w * 64)) refl
 
     -- The word marks one that suits: it is the first that passes.
-    pub word_hit : (k : ℕ) → Missed (w * 64) → FirstMarked s ts (w * 64) marks (Some k) → Some k ≡ first_passing fits_in ts (length ts)
+    pub word_hit : (k : ℕ) → Missed (w * 64) → FirstMarked s ts base (w * 64) marks (Some k) → Some k ≡ first_passing fits_in ts (length ts)
     word_hit k missed (b, q, low, l, m, y, none) =
-        sym (passing_is fits_in ts (length ts) k l (subst (λ (n : ℕ). fits_in n (get_or ts n no_slot) ≡ true) (sym q) (here (subst (λ (n : ℕ). suits s (get_or ts n no_slot) ≡ true) q y)))
+        sym (passing_is fits_in ts (length ts) k l (passes_marked k b _ low q ∙ pick_yes _ _ _ y ∙ m)
         (λ j h. word_missed b (omega arith) missed none j (omega arith) (omega arith)))
-      where
-        here : suits s (get_or ts (w * 64 + b) no_slot) ≡ true → fits_in (w * 64 + b) (get_or ts (w * 64 + b) no_slot) ≡ true
-        here e = passes_marked b _ low ∙ pick_yes _ _ _ e ∙ m
 
     -- It marks none that suits.
-    pub word_past : Missed (w * 64) → FirstMarked s ts (w * 64) marks None → Missed ((w + 1) * 64)
-    word_past missed none j h l = word_missed 64 (omega arith) missed none j (omega arith) l
+    pub word_past : Missed (w * 64) → FirstMarked s ts base (w * 64) marks None → Missed ((w + 1) * 64)
+    word_past missed none i h l = word_missed 64 (omega arith) missed none i (omega arith) l
+
+    -- It marks none at all.
+    pub word_unmarked : Missed (w * 64) → marks ≡ 0 → Missed ((w + 1) * 64)
+    word_unmarked missed z = word_past missed (λ j i h e q l. absurd (omega (arith, bit_set marks j e, ap (λ (n : ℕ). bit_at n j) z, bit_at-zero j)))
 
   -- All words are gone through.
-  pub words_past : (w : ℕ) → 4 ≤ w → length ts ≤ 256 → Missed (w * 64) → None ≡ first_passing fits_in ts (length ts)
-  words_past w all few missed = sym (passing_none fits_in ts (length ts) (λ j h. missed j (omega arith) h))
+  pub words_past : (w : ℕ) → 4 ≤ w → base + length ts ≤ 256 → Missed (w * 64) → None ≡ first_passing fits_in ts (length ts)
+  words_past w all few missed = sym (passing_none fits_in ts (length ts) (λ i h. missed i (omega arith) h))

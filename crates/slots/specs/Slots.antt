@@ -34,15 +34,17 @@ first_of p ts (suc i) found = first_of p ts i (pick (p i (get_or ts i no_slot)) 
 unfoldable pub first_passing : (ℕ → Slot → Bool) → List Slot → ℕ → Option ℕ
 first_passing p ts n = pick (ltb (first_of p ts n n) n) (Some (first_of p ts n n)) None
 
--- Of the slots from number `base` on a word marks some, number base + b by its bit b. Of those below bit b none suits a storage.
-abbrev pub NoneMarked : Storage → List Slot → ℕ → ℕ → ℕ → Type 0
-NoneMarked s ts base marks b = (j : ℕ) → j < b → bit marks j ≡ true → base + j < length ts → suits s (get_or ts (base + j) no_slot) ≡ false
+-- Of the numbers from `word` on a word marks some, number word + b by its bit b; a list's first slot has the number `base`. Of the slots whose bits lie below
+-- bit b none that is marked suits a storage.
+abbrev pub NoneMarked : Storage → List Slot → ℕ → ℕ → ℕ → ℕ → Type 0
+NoneMarked s ts base word marks b =
+    (j i : ℕ) → j < b → bit marks j ≡ true → base + i ≡ word + j → i < length ts → suits s (get_or ts i no_slot) ≡ false
 
 -- The answer names the first that the word marks and that suits; or none of all 64 does.
-abbrev pub FirstMarked : Storage → List Slot → ℕ → ℕ → Option ℕ → Type 0
-FirstMarked s ts base marks None = NoneMarked s ts base marks 64
-FirstMarked s ts base marks (Some k) =
-    (b : ℕ) × (k ≡ base + b) × (b < 64) × (k < length ts) × (bit marks b ≡ true) × (suits s (get_or ts k no_slot) ≡ true) × NoneMarked s ts base marks b
+abbrev pub FirstMarked : Storage → List Slot → ℕ → ℕ → ℕ → Option ℕ → Type 0
+FirstMarked s ts base word marks None = NoneMarked s ts base word marks 64
+FirstMarked s ts base word marks (Some i) =
+    (b : ℕ) × (base + i ≡ word + b) × (b < 64) × (i < length ts) × (bit marks b ≡ true) × (suits s (get_or ts i no_slot) ≡ true) × NoneMarked s ts base word marks b
 
 -- The slot that a storage opens at a placement.
 abbrev pub opened : Storage → Placement → Slot

@@ -2,7 +2,7 @@
 // Knows storages; gives the slot as a struct with its placement as a choice inside it, and the list of open slots, to search and to append to.
 #![tactic(auto)]
 
-ghost use Rattle.std.specs.Prelude.{◌≡◌, ◌+◌, ◌≤◌, ◌<◌, length, get_or, set, replicate, IfSome};
+ghost use Rattle.std.specs.Prelude.{◌≡◌, not, ◌+◌, ◌≤◌, ◌<◌, eqb, length, get_or, set, replicate, IfSome};
 ghost use Rattle.slots.specs.Slots.{no_slot, suits, passes, first_passing, FirstMarked, opened};
 
 use storages::{Placement, Storage, allows_region, region_of};
@@ -17,12 +17,12 @@ pub struct Slot {
 }
 
 // The open slots stand at the front of the list, in the order in which they opened.
-#[derive(Drop)]
+#[derive(Clone, Copy)]
 pub struct Slots {
-    list: [Slot; 256],
-    count: usize,
-    ghost fits: { count ≤ 256 },
-    ghost long: { length list ≡ 256 },
+    pub list: [Slot; 256],
+    pub count: usize,
+    pub ghost fits: { count ≤ 256 },
+    pub ghost long: { length list ≡ 256 },
 }
 
 // The slot that a storage opens at a placement.
@@ -58,35 +58,48 @@ pub fn put(slots: &mut [Slot], i: usize, t: Slot)
     slots[i] = t;
 }
 
-// The first slot of a lent list that suits a storage, of those that a word marks: its bit b stands for number base + b.
-fn walk_word(slots: &[Slot], s: Storage, base: usize, marks: u64) -> Option<usize>
-    requires { base < 256 }
-    ensures { FirstMarked s slots.now base marks result }
+// Does a word mark a slot?
+fn any_marked(marks: u64) -> bool
+    ensures { result ≡ not (eqb marks 0) }
+{
+    marks != 0
+}
+
+// The first slot of a lent list that suits a storage, of those that a word marks: its bit b stands for number word + b, and the list's first slot has the number `base`.
+fn walk_word(slots: &[Slot], s: Storage, base: usize, word: usize, marks: u64) -> Option<usize>
+    requires { word < 256 }
+    ensures { FirstMarked s slots.now base word marks result }
 {
     let mut left = marks;
     while left != 0 {
         let bit = left.trailing_zeros();
-        let k = base + bit as usize;
-        if slots.len() <= k {
-            return None;
-        }
-        if suits_storage(s, slots[k]) {
-            return Some(k);
+        let k = word + bit as usize;
+        if base <= k {
+            let i = k - base;
+            if slots.len() <= i {
+                return None;
+            }
+            if suits_storage(s, slots[i]) {
+                return Some(i);
+            }
         }
         left &= !(1 << bit);
     }
     None
 }
 
-// The first slot of a lent list that suits a storage and that both rows hold.
-pub fn walk(slots: &[Slot], s: Storage, free: &[u64], chosen: &[u64]) -> Option<usize>
-    requires { (length slots.now ≤ 256) × (length free.now ≡ 4) × (length chosen.now ≡ 4) }
-    ensures { result ≡ first_passing (passes s free.now chosen.now) slots.now (length slots.now) }
+// The first slot of a lent list that suits a storage and that both rows hold. The rows know the list's first slot by the number `base`.
+// A word that marks none is passed over.
+pub fn walk(slots: &[Slot], s: Storage, free: &[u64], chosen: &[u64], base: usize) -> Option<usize>
+    requires { (base + length slots.now ≤ 256) × (length free.now ≡ 4) × (length chosen.now ≡ 4) }
+    ensures { result ≡ first_passing (λ i. passes s free.now chosen.now (base + i)) slots.now (length slots.now) }
 {
-    for w in 0..4 {
+    for w in base / 64..4 {
         let marks = free[w] & chosen[w];
-        if let Some(k) = walk_word(slots, s, w * 64, marks) {
-            return Some(k);
+        if any_marked(marks) {
+            if let Some(i) = walk_word(slots, s, base, w * 64, marks) {
+                return Some(i);
+            }
         }
     }
     None
@@ -140,6 +153,6 @@ impl Slots {
         ensures first { result ≡ first_passing (passes s free.now chosen.now) self.now.list self.now.count }
         ensures below { IfSome result (λ k. k < self.now.count) }
     {
-        walk(&self.list[..self.count], s, free, chosen)
+        walk(&self.list[..self.count], s, free, chosen, 0)
     }
 }

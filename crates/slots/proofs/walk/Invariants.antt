@@ -4,4 +4,4 @@ use Rattle.slots.proofs.Walking.{Missed}
 use Rattle.slots.proofs.walk.Given as goal
 
 abbrev pub invariant-loop-w : goal.invariant-loop-w
-invariant-loop-w l = Missed l.s l.free l.chosen l.slots (l.w * 64)
+invariant-loop-w l = Missed l.s l.free l.chosen l.slots l.base (l.w * 64)
