@@ -19,7 +19,8 @@ use Rattle.storages.specs.declared.Room.TheVariants.{Nowhere, Bytes, OneBit}
 use Rattle.storages.specs.Room.{same, within}
 use Rattle.maps.specs.Maps.{fill, set_bit}
 use Rattle.maps.proofs.Laws.{clear_bytes_out, clear_bit_out, fill_length, fill_clear, fill_keep, fill_has, fill_only, bit_full, set_bit_length, set_bit_keep, set_bit_has, set_bit_only, set_bit_clear}
-use Rattle.places.specs.Memory.{Maps, map_of, put_map, fresh, clear_room, reserve}
+use Rattle.places.specs.declared.memory.Floor.{Floor}
+use Rattle.places.specs.Memory.{Maps, map_of, put_map, fresh, clear_room, reserve, Solid}
 use Rattle.places.specs.Legal.{size_of, Inside, Small}
 
 -- Bit k of byte i of a space is taken.
@@ -154,6 +155,11 @@ reserve_clear m (Bytes q o n) sp i =
 reserve_clear m (OneBit q o b) sp i =
     map_cases (λ x. get_or x i 0 ≡ 0 → get_or (map_of sp m) i 0 ≡ 0) q sp (set_bit o b (map_of q m)) m
     (λ _ e h. subst (λ (z : Space). get_or (map_of z m) i 0 ≡ 0) e (set_bit_clear o b (map_of q m) i h)) (λ h. h)
+
+-- So no byte below a floor becomes clear.
+pub reserve_solid : (f : Floor) (m : Maps) (r : Room) (app wrk : List ℕ) → record { app = app; wrk = wrk } ≡ reserve r m → Solid f m.app m.wrk → Solid f app wrk
+reserve_solid f m r app wrk e h =
+    subst (λ (x : Maps). Solid f x.app x.wrk) (sym e) (λ j l z. h.0 j l (reserve_clear m r App j z), λ j l z. h.1 j l (reserve_clear m r Work j z))
 
 -- Maps stay as long as they were.
 pub reserve_length : (m : Maps) (r : Room) (sp : Space) → length (map_of sp (reserve r m)) ≡ length (map_of sp m)

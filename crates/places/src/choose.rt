@@ -8,7 +8,7 @@ ghost use Rattle.places.specs.Memory.{clear_room, Solid};
 ghost use Rattle.places.specs.Legal.{Small, FixedSmall};
 ghost use Rattle.places.specs.Place.{Given, fitted, name_bit, name_bytes, work_bit, app_bit, choose_bit, work_bytes, app_bytes, choose_bytes, choose_free, choose_fixed, choose};
 
-use crate::memory::{Memory, is_clear};
+use crate::memory::{Floor, Memory, is_clear};
 use maps::{first_clear, high_bit};
 use records::Refusal;
 use storages::{
@@ -138,63 +138,103 @@ pub fn choose_fixed(s: Storage, p: Placement, app: &[u8], work: &[u8]) -> Result
     }
 }
 
-impl Memory<'_> {
-    // Bytes after application RAM: Flash, then the work map.
-    #[tactic(auto, using(crate::proofs::Choosing::found_below), unfolding(crate::specs::Place::work_bytes, fields::specs::Pick::pick))]
-    fn work_bytes(&self, s: Storage) -> Result<Placement, Refusal>
-        ensures { result ≡ work_bytes s self.now.work.now }
-    {
-        if allows_region(s, 7) {
-            return Ok(Placement::Flash);
-        }
-        if !allows_work(s) {
-            return Err(Refusal::NoPlace(s.id as usize));
-        }
-        name_bytes(s, first_clear(self.work, self.floor.work, s.len as usize))
+// Bytes after application RAM: Flash, then the work map, whose bytes below `low` are taken.
+#[tactic(auto, using(crate::proofs::Choosing::found_below), unfolding(crate::specs::Place::work_bytes, fields::specs::Pick::pick))]
+fn work_bytes(s: Storage, work: &[u8], low: usize) -> Result<Placement, Refusal>
+    requires { (length work.now ≤ 512) × TakenBelow work.now low }
+    ensures { result ≡ work_bytes s work.now }
+{
+    if allows_region(s, 7) {
+        return Ok(Placement::Flash);
     }
+    if !allows_work(s) {
+        return Err(Refusal::NoPlace(s.id as usize));
+    }
+    name_bytes(s, first_clear(work, low, s.len as usize))
+}
 
-    // Bytes: the first clear window of application RAM, where that is allowed; without one a direct storage is refused, and others try on.
-    #[tactic(auto, unfolding(crate::specs::Place::choose_bytes, fields::specs::Pick::pick))]
+// Bytes: the first clear window of application RAM, where that is allowed; without one a direct storage is refused, and others try on.
+#[tactic(auto, unfolding(crate::specs::Place::choose_bytes, fields::specs::Pick::pick))]
+pub fn choose_bytes(s: Storage, app: &[u8], work: &[u8], floor: Floor) -> Result<Placement, Refusal>
+    requires { (length app.now ≤ 256) × (length work.now ≤ 512) × Solid floor app.now work.now }
+    ensures { result ≡ choose_bytes s (record { app = app.now; wrk = work.now }) }
+{
+    if !allows_region(s, 2) {
+        return work_bytes(s, work, floor.work);
+    }
+    match first_clear(app, floor.app, s.len as usize) {
+        Some(offset) => Ok(Placement::ApplicationRam {
+            offset: offset as u16,
+        }),
+        None if s.direct => Err(Refusal::ApplicationFull(s.len as usize)),
+        None => work_bytes(s, work, floor.work),
+    }
+}
+
+// A storage that is not fixed. A bit is looked for in bytes lo to hi - 1 of application RAM.
+#[tactic(auto, unfolding(crate::specs::Place::choose_free, fields::specs::Pick::pick))]
+pub fn choose_free(
+    s: Storage,
+    app: &[u8],
+    work: &[u8],
+    floor: Floor,
+    lo: usize,
+    hi: usize,
+) -> Result<Placement, Refusal>
+    requires { (hi ≤ length app.now) × (length app.now ≤ 256) × (length work.now ≤ 512) × Solid floor app.now work.now }
+    ensures { (g : Given) → g.lo ≡ lo → g.hi ≡ hi → result ≡ choose_free g s (record { app = app.now; wrk = work.now }) }
+{
+    if sits_in_flag(s) {
+        Ok(Placement::CarryFlag)
+    } else if takes_bit(s.kind) {
+        choose_bit(s, app, work, lo, hi)
+    } else {
+        choose_bytes(s, app, work, floor)
+    }
+}
+
+// A place of its own for a storage.
+#[tactic(auto, unfolding(crate::specs::Place::choose))]
+pub fn choose(
+    s: Storage,
+    app: &[u8],
+    work: &[u8],
+    floor: Floor,
+    lo: usize,
+    hi: usize,
+) -> Result<Placement, Refusal>
+    requires { (hi ≤ length app.now) × (length app.now ≤ 256) × (length work.now ≤ 512) × FixedSmall s.len s.fixed × Solid floor app.now work.now }
+    ensures { (g : Given) → g.lo ≡ lo → g.hi ≡ hi → result ≡ choose g s (record { app = app.now; wrk = work.now }) }
+{
+    match s.fixed {
+        None => choose_free(s, app, work, floor, lo, hi),
+        Some(p) => choose_fixed(s, p, app, work),
+    }
+}
+
+// The same choices, in the memories as far as they are taken.
+impl Memory<'_> {
+    // A place for bytes.
     pub fn choose_bytes(&self, s: Storage) -> Result<Placement, Refusal>
         ensures { result ≡ choose_bytes s (record { app = self.now.app.now; wrk = self.now.work.now }) }
     {
-        if !allows_region(s, 2) {
-            return self.work_bytes(s);
-        }
-        match first_clear(self.app, self.floor.app, s.len as usize) {
-            Some(offset) => Ok(Placement::ApplicationRam {
-                offset: offset as u16,
-            }),
-            None if s.direct => Err(Refusal::ApplicationFull(s.len as usize)),
-            None => self.work_bytes(s),
-        }
+        choose_bytes(s, self.app, self.work, self.floor)
     }
 
-    // A storage that is not fixed. A bit is looked for in bytes lo to hi - 1 of application RAM.
-    #[tactic(auto, unfolding(crate::specs::Place::choose_free, fields::specs::Pick::pick))]
+    // A place for a storage that is not fixed.
     pub fn choose_free(&self, s: Storage, lo: usize, hi: usize) -> Result<Placement, Refusal>
         requires { hi ≤ length self.now.app.now }
         ensures { (g : Given) → g.lo ≡ lo → g.hi ≡ hi → result ≡ choose_free g s (record { app = self.now.app.now; wrk = self.now.work.now }) }
     {
-        if sits_in_flag(s) {
-            Ok(Placement::CarryFlag)
-        } else if takes_bit(s.kind) {
-            choose_bit(s, self.app, self.work, lo, hi)
-        } else {
-            self.choose_bytes(s)
-        }
+        choose_free(s, self.app, self.work, self.floor, lo, hi)
     }
 
-    // A place of its own for a storage.
-    #[tactic(auto, unfolding(crate::specs::Place::choose))]
+    // A place for any storage.
     pub fn choose(&self, s: Storage, lo: usize, hi: usize) -> Result<Placement, Refusal>
         requires room { hi ≤ length self.now.app.now }
         requires small { FixedSmall s.len s.fixed }
         ensures { (g : Given) → g.lo ≡ lo → g.hi ≡ hi → result ≡ choose g s (record { app = self.now.app.now; wrk = self.now.work.now }) }
     {
-        match s.fixed {
-            None => self.choose_free(s, lo, hi),
-            Some(p) => choose_fixed(s, p, self.app, self.work),
-        }
+        choose(s, self.app, self.work, self.floor, lo, hi)
     }
 }

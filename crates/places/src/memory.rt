@@ -55,40 +55,56 @@ pub fn is_clear(app: &[u8], work: &[u8], room: Room) -> bool
     }
 }
 
+// Takes the room.
+#[tactic(auto, unfolding(crate::specs::Memory::reserve))]
+pub fn take_room(app: &mut [u8], work: &mut [u8], room: Room)
+    requires { Inside (length app.old) (length work.old) room }
+    ensures { (record { app = app.new; wrk = work.new }) ≡ reserve room (record { app = app.old; wrk = work.old }) }
+{
+    match room {
+        Room::Nowhere => {}
+        Room::Bytes {
+            space,
+            offset,
+            count,
+        } => match space {
+            Space::App => take_bytes(app, offset as usize, count as usize),
+            Space::Work => take_bytes(work, offset as usize, count as usize),
+        }
+        Room::OneBit { space, offset, bit } => match space {
+            Space::App => take_bit(app, offset as usize, bit as usize),
+            Space::Work => take_bit(work, offset as usize, bit as usize),
+        }
+    }
+}
+
+// The floor up to the first byte that is clear now.
+#[tactic(auto, using(maps::proofs::Laws::taken_inside, maps::proofs::Laws::taken_next))]
+pub fn raise(floor: Floor, app: &[u8], work: &[u8]) -> Floor
+    requires { Solid floor app.now work.now }
+    ensures { Solid result app.now work.now }
+{
+    Floor {
+        app: next_clear(app, floor.app),
+        work: next_clear(work, floor.work),
+    }
+}
+
 impl Memory<'_> {
-    // Takes the room. Each arm names its map, since one that a method lends would leave the facts of the struct behind.
-    #[tactic(auto, using(maps::proofs::Laws::fill_length, maps::proofs::Laws::fill_clear, maps::proofs::Laws::set_bit_length, maps::proofs::Laws::set_bit_clear), unfolding(crate::specs::Memory::reserve))]
+    // Takes the room. What is taken stays taken, so the floor holds on.
     pub fn take(&mut self, room: Room)
         requires { Inside (length self.old.app.now) (length self.old.work.now) room }
         ensures taken { (record { app = self.new.app.now; wrk = self.new.work.now }) ≡ reserve room (record { app = self.old.app.now; wrk = self.old.work.now }) }
         ensures kept { (length self.new.app.now ≡ length self.old.app.now) × (length self.new.work.now ≡ length self.old.work.now) }
     {
-        match room {
-            Room::Nowhere => {}
-            Room::Bytes {
-                space,
-                offset,
-                count,
-            } => match space {
-                Space::App => take_bytes(self.app, offset as usize, count as usize),
-                Space::Work => take_bytes(self.work, offset as usize, count as usize),
-            }
-            Room::OneBit { space, offset, bit } => match space {
-                Space::App => take_bit(self.app, offset as usize, bit as usize),
-                Space::Work => take_bit(self.work, offset as usize, bit as usize),
-            }
-        }
+        take_room(self.app, self.work, room);
     }
 
-    // The floor up to the first byte that is clear now. It only reads, so that its caller knows the maps to stay.
-    #[tactic(auto, using(maps::proofs::Laws::taken_inside, maps::proofs::Laws::taken_next))]
+    // The raised floor. It only reads, so that its caller knows the maps to stay.
     fn raised(&self) -> Floor
         ensures { Solid result self.now.app.now self.now.work.now }
     {
-        Floor {
-            app: next_clear(self.app, self.floor.app),
-            work: next_clear(self.work, self.floor.work),
-        }
+        raise(self.floor, self.app, self.work)
     }
 
     // Raises the floor up to the first byte that is clear now.
