@@ -1,2 +1,3 @@
 mod Decimal
+mod Digits
 mod Joined

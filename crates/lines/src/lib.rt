@@ -4,4 +4,5 @@
 
 pub mod answer;
 pub mod placing;
+pub mod slices;
 pub mod text;
