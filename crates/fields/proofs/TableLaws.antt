@@ -1,5 +1,5 @@
--- Laws of the table as numbers: a row's word has its fields as bytes (`row_byte`), a byte has its field's parts (`byte-..`), no row has more
--- than six fields (`fields_short`, `end_fields_short`), and the constant of the code has every row's word (`entry_op`, `entry_branch`) and none past the tables. Assumes nothing.
+-- Laws of the table as numbers: a row's word has its fields as bytes (`row_byte`), a byte has its field's parts (`byte-..`), no row has more than six fields
+-- (`fields_short`, `end_fields_short`), none is past the tables (`fields_none`, `branch_none`), and the code's constant has just their words (`entry_..`). Assumes nothing.
 use mathlib.Core.Path.{◌≡◌, refl, sym, ap, ◌∙◌}
 use mathlib.Core.Bool.{Bool, true, false}
 use mathlib.Core.List.{List, [], ◌∷◌, ◌++◌, map}
@@ -194,13 +194,19 @@ unfolding entry_of row_word byte_of missing times pick
 entry_switch = refl
 
 -- what is no operation has no row, and no branch beyond the eight has one
-pub entry_past : (op : ℕ) → 30 ≤ op → entry_of (fields_of op) ≡ 0
+pub fields_none : (op : ℕ) → 30 ≤ op → fields_of op ≡ []
 unfolding fields_of table
-entry_past op l = ap entry_of (get_or-eq_default table [] l) ∙ entry_none
+fields_none op l = get_or-eq_default table [] l
+
+pub branch_none : (sub : ℕ) → 8 ≤ sub → get_or branch_fields sub [] ≡ []
+unfolding branch_fields
+branch_none sub l = get_or-eq_default branch_fields [] l
+
+pub entry_past : (op : ℕ) → 30 ≤ op → entry_of (fields_of op) ≡ 0
+entry_past op l = ap entry_of (fields_none op l) ∙ entry_none
 
 pub branch_past : (sub : ℕ) → 8 ≤ sub → entry_of (get_or branch_fields sub []) ≡ 0
-unfolding branch_fields
-branch_past sub l = ap entry_of (get_or-eq_default branch_fields [] l) ∙ entry_none
+branch_past sub l = ap entry_of (branch_none sub l) ∙ entry_none
 
 -- the entries of the constant: the operations', and behind them the branches' and Switch's
 unfoldable pub behind : List ℕ

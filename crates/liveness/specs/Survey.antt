@@ -1,6 +1,6 @@
 -- What the survey of a function leaves for the passes and for the graph: of each block a row of units read before they are written, one of units
 -- written, its targets as block numbers, and where its steps begin. No public contract cites it.
-use Rattle.std.specs.Prelude.{◌≡◌, List, [], ◌∷◌, ◌++◌, ℕ, ◌+◌, ◌*◌, ◌≤◌, ◌<◌, ltb, length, get_or}
+use Rattle.std.specs.Prelude.{◌≡◌, List, [], ◌∷◌, ◌++◌, ℕ, ◌+◌, ◌*◌, ◌≤◌, ◌<◌, ltb, length, get_or, replicate}
 use Rattle.rows.specs.Row.{row}
 use Rattle.fields.specs.Pick.{pick}
 use Rattle.fields.specs.Edition.{one}
@@ -12,6 +12,18 @@ use Rattle.passes.specs.Passes.{width, targets_of, Given}
 use Rattle.liveness.specs.Flow.{Use, use_of, flows}
 use Rattle.liveness.specs.Settle.{flow_at}
 use Rattle.liveness.specs.declared.survey.Findings.{Findings}
+
+-- Nothing is found yet: all is 0.
+pub record Blank (findings : Findings) : Type 0 where
+  pub gens : findings.gens ≡ replicate 1024 0
+  pub kills : findings.kills ≡ replicate 1024 0
+  pub starts : findings.starts ≡ replicate 129 0
+  pub firsts : findings.firsts ≡ replicate 129 0
+  pub targets : findings.steps.targets ≡ replicate 5462 0
+  pub places : findings.steps.places ≡ replicate 4097 0
+  pub counts : findings.steps.counts ≡ replicate 4097 0
+  pub reads : findings.steps.reads ≡ replicate 520 0
+  pub writes : findings.steps.writes ≡ replicate 520 0
 
 -- The units that some steps read before they write them; the units that they write.
 unfoldable pub read_first : List Use → List ℕ

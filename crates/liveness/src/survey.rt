@@ -10,7 +10,7 @@ ghost use Rattle.units.specs.Rows.{unit_row};
 ghost use Rattle.units.specs.Along.{from, step_from, IsStep, StandsAt, Sound, SoundSite, Ready};
 ghost use Rattle.passes.specs.Passes.{Given};
 ghost use Rattle.liveness.specs.Flow.{use_of};
-ghost use Rattle.liveness.specs.Survey.{row_for, read_first, written, Surveyed};
+ghost use Rattle.liveness.specs.Survey.{Blank, row_for, read_first, written, Surveyed};
 ghost use Rattle.liveness.specs.Walks.{BlockHere, FunctionHere, Stopped, Stops, Paced, Came, BlockNext, Inner, Outer, Same, Within, Asked, uses_of, Taken, Walked, Tallied, Sized, Grown};
 
 use fields::bytes::{u16_at, whole_record};
@@ -55,7 +55,9 @@ pub struct Findings {
 impl Findings {
     // All is 0 at first. What is so large is made where it stays.
     #[inline(always)]
-    pub fn new() -> Self {
+    pub fn new() -> Self
+        ensures { Blank result }
+    {
         Findings {
             gens: [0; 1024],
             kills: [0; 1024],

@@ -1,5 +1,5 @@
 -- What a loop over the storages needs of one turn. Placing the rest comes to what placing all comes to, since a step hands its state on; and a step adds one
--- placed storage and at most one slot, and keeps the maps' lengths.
+-- placed storage and at most one slot, keeps the maps' lengths, and clears no byte.
 use Rattle.std.specs.Prelude.{Option, Some, None, Result, Ok, Err}
 use mathlib.Core.Path.{◌≡◌, refl, sym, ap, ◌∙◌}
 use mathlib.Core.Bool.{Bool, true, false}
@@ -14,9 +14,11 @@ use Rattle.storages.specs.declared.Space.TheVariants.{App, Work}
 use Rattle.storages.specs.Storage.{tries}
 use Rattle.storages.specs.Room.{room}
 use Rattle.slots.specs.Slots.{opened}
+use Rattle.places.specs.declared.memory.Floor.{Floor}
+use Rattle.places.specs.Memory.{Solid}
 use Rattle.places.specs.Place.{Given, Opened, joined, slot_for, choose, Placed, State, Outcome, done, refused, placed_at, take_room, join_slot, step_by, step, and_then, place_from, record_of, records_of}
 use Rattle.turns.proofs.Joining.{slot_at}
-use Rattle.places.proofs.Rooms.{reserve_length}
+use Rattle.places.proofs.Rooms.{reserve_clear, reserve_length}
 use Rattle.storages.specs.declared.Placement.{Placement}
 
 -- What holds of the state that comes out; a refusal promises nothing.
@@ -91,6 +93,18 @@ step_sizes g a w s x h = step_cases (Sizes a w) g s x taken (λ k. h)
     taken : (c : Result Placement Refusal) → After (Sizes a w) (take_room s x c)
     taken (Err r) = tt
     taken (Ok p) = (reserve_length x.maps (room s.len p) App ∙ h.0, reserve_length x.maps (room s.len p) Work ∙ h.1)
+
+-- What is taken stays taken, so that a floor stays one.
+abbrev pub Over : Floor → State → Type 0
+Over f x = Solid f x.maps.app x.maps.wrk
+
+pub step_over : (g : Given) (f : Floor) (s : Storage) (x : State) → Over f x → After (Over f) (step g s x)
+step_over g f s x h = step_cases (Over f) g s x taken (λ k. h)
+  where
+    taken : (c : Result Placement Refusal) → After (Over f) (take_room s x c)
+    taken (Err r) = tt
+    taken (Ok p) =
+        (λ j l e. h.0 j l (reserve_clear x.maps (room s.len p) App j e), λ j l e. h.1 j l (reserve_clear x.maps (room s.len p) Work j e))
 
 -- ---- Results
 
