@@ -91,11 +91,20 @@ impl<W: Write> Page<W> {
     }
 }
 
+// The room that a page keeps for the next word of a line, with the number behind it.
+const WORD: usize = 1024;
+
+// Does a text go on with a number? It then stays on the page of the word in front of it.
+fn is_number(text: &[u8]) -> bool {
+    matches!(text, [b'0'..=b'9', ..])
+}
+
 // Of a text that is longer than the page it takes the first part, as writers may.
 impl<W: Write> Write for Page<W> {
     fn write(&mut self, text: &[u8]) -> Result<usize> {
         let count = text.len().min(65536);
-        self.make_room(count)?;
+        let room = if is_number(text) { count } else { count.max(WORD) };
+        self.make_room(room)?;
         put(&mut self.waiting, &text[..count]);
         Ok(count)
     }
