@@ -1,5 +1,5 @@
--- What the program `place` prints of a file, as a list of bytes (docs/DECISIONS.md, "Programs").
-use Rattle.std.specs.Prelude.{ℕ, List, replicate, take, Result, Ok, Err}
+-- What the program `place` prints of a file, as a list of bytes (docs/DECISIONS.md, "Programs"), and what a page does with a text that is put on it.
+use Rattle.std.specs.Prelude.{◌≡◌, ℕ, List, ◌++◌, replicate, take, Result, Ok, Err}
 use Rattle.std.specs.Io.KnownBytes.{Appends}
 use Rattle.std.specs.declared.option.Option.{Option}
 use Rattle.fields.specs.Edition.{one}
@@ -31,3 +31,7 @@ printed f = placing_text Alone f (replicate 512 0)
 -- Known bytes grow by a front of a text: by its first n bytes for some n, all of them at the most.
 abbrev pub AppendsFront : Option (List ℕ) → Option (List ℕ) → List ℕ → Type 0
 AppendsFront old new text = (n : ℕ) × Appends old new (take n text)
+
+-- A page carries a text on: what it handed to its writer and what waits on it grow by that text together, so that no byte of either is lost.
+abbrev pub Carries : Option (List ℕ) → List ℕ → Option (List ℕ) → List ℕ → List ℕ → Type 0
+Carries out waiting out' waiting' text = (handed : List ℕ) × Appends out out' handed × (handed ++ waiting' ≡ waiting ++ text)

@@ -3,7 +3,8 @@
 ghost use Rattle.std.specs.Prelude.{◌≡◌, ◌+◌, ◌≤◌, [], OnErr, OnOk};
 ghost use Rattle.std.specs.Io.KnownBytes.{Appends};
 ghost use Rattle.arrayvec.specs.ArrayVec.{array_vec_len};
-ghost use Rattle.report.specs.Printed.{AppendsFront};
+ghost use Rattle.lines.specs.Text.{answer_text};
+ghost use Rattle.report.specs.Printed.{AppendsFront, Carries, placing_text};
 
 use crate::placing::put_placing;
 use arrayvec::ArrayVec;
@@ -58,7 +59,8 @@ impl<W: Write> Page<W> {
 
     // Hands on what waits, and the page starts anew.
     pub fn write_out(&mut self) -> Result<()>
-        ensures { OnOk result (self.new.waiting.items ≡ []) }
+        ensures anew { OnOk result (self.new.waiting.items ≡ []) }
+        ensures handed { OnOk result (Appends (W.contents self.old.out) (W.contents self.new.out) self.old.waiting.items) }
     {
         write_out(&mut self.out, &self.waiting)?;
         self.waiting.clear();
@@ -68,7 +70,8 @@ impl<W: Write> Page<W> {
     // Where fewer bytes than that are left, the page is written out.
     fn make_room(&mut self, count: usize) -> Result<()>
         requires { count ≤ 65536 }
-        ensures { OnOk result (array_vec_len self.new.waiting + count ≤ 65536) }
+        ensures room { OnOk result (array_vec_len self.new.waiting + count ≤ 65536) }
+        ensures kept { OnOk result (Carries (W.contents self.old.out) self.old.waiting.items (W.contents self.new.out) self.new.waiting.items []) }
     {
         if self.waiting.remaining_capacity() < count {
             self.write_out()?;
@@ -79,12 +82,17 @@ impl<W: Write> Page<W> {
     // The answer of `check` is the first text of a page, which has room for all of it.
     pub fn put_answer(&mut self, units: &[u32; 512], checked: std::result::Result<usize, Refusal>)
         requires { self.old.waiting.items ≡ [] }
+        ensures first { self.new.waiting.items ≡ answer_text checked units.now }
+        ensures unwritten { self.new.out ≡ self.old.out }
     {
         put_answer(&mut self.waiting, units, checked);
     }
 
     // A placing has its room before it is put.
-    pub fn put_placing(&mut self, file: &[u8], units: &mut [u32; 512]) -> Result<()> {
+    pub fn put_placing(&mut self, file: &[u8], units: &mut [u32; 512]) -> Result<()>
+        ensures { OnOk result (Carries (W.contents self.old.out) self.old.waiting.items (W.contents self.new.out) self.new.waiting.items
+            (placing_text Setting.InReport file.now units.old)) }
+    {
         self.make_room(24000)?;
         put_placing(&mut self.waiting, file, units, Setting::InReport);
         Ok(())
