@@ -28,9 +28,9 @@ use storage_lines::put_graph;
 // `check`, an accepted file has the lines of its functions, of its graph and of its placing, and a
 // refused one has nothing.
 pub fn report<W: Write>(out: &mut W, file: &[u8]) -> Result<()> {
+    let mut page = Page::new(out);
     let mut units = [0u32; 512];
     let checked = records::check(file, &mut units);
-    let mut page = Page::new(out);
     page.put_answer(&units, checked);
     if checked.is_ok() {
         put_functions(&mut page, file, &mut units)?;

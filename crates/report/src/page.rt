@@ -14,6 +14,9 @@ use lines::text::put;
 use records::Refusal;
 use std::io::{Error, ErrorKind, Result, Write};
 
+// A page is written out where it has less room than that for the next word and the number behind it.
+const WORD: usize = 1024;
+
 // Writes a text. It is the loop of `write_all` over again, since that promises nothing of what an
 // error leaves. The turns are counted, as there, so that the loop ends.
 pub fn write_out<W: Write>(out: &mut W, text: &[u8]) -> Result<()>
@@ -99,11 +102,21 @@ impl<W: Write> Page<W> {
     }
 }
 
+// Does a text go on with a number? It then stays on the page of the word in front of it.
+fn is_number(text: &[u8]) -> bool {
+    matches!(text, [b'0'..=b'9', ..])
+}
+
 // Of a text that is longer than the page it takes the first part, as writers may.
 impl<W: Write> Write for Page<W> {
     fn write(&mut self, text: &[u8]) -> Result<usize> {
         let count = text.len().min(65536);
-        self.make_room(count)?;
+        let room = if is_number(text) {
+            count
+        } else {
+            count.max(WORD)
+        };
+        self.make_room(room)?;
         put(&mut self.waiting, &text[..count]);
         Ok(count)
     }

@@ -17,10 +17,14 @@ pub fn put_step(out: &mut impl Write, step: Record<'_>, units: &mut [u32; 512]) 
     let _ = units::storage_writes(file, place, units, &mut storages_written);
     // A step of an accepted file is never refused.
     let observed = units::observable_effect(file, place, units).unwrap_or(false);
-    let effect = if observed { "yes" } else { "no" };
-    writeln!(
+    let effect = if observed {
+        " effect yes\n"
+    } else {
+        " effect no\n"
+    };
+    write!(
         out,
-        "at {place} reads{} writes{} storages-read{} storages-written{} effect {effect}",
+        "at {place} reads{} writes{} storages-read{} storages-written{}{effect}",
         Numbers::of(&reads),
         Numbers::of(&writes),
         Numbers::of(&storages_read),

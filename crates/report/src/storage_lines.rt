@@ -16,6 +16,11 @@ pub fn put_graph(out: &mut impl Write, file: &[u8], units: &mut [u32; 512]) -> R
     put_copies(out, &copies)
 }
 
+// Most rows hold no number, and are passed over.
+fn is_empty(row: &[u64]) -> bool {
+    row.iter().all(|word| *word == 0)
+}
+
 // Every storage, in file order. Ids are below 256.
 fn put_storages(out: &mut impl Write, file: &[u8], near: &[u64; 1024]) -> Result<()> {
     for storage in Records::of(file).filter(|record| record.kind() == Kind::Storage) {
@@ -29,7 +34,7 @@ fn put_storage(out: &mut impl Write, id: usize, near: &[u64; 1024]) -> Result<()
     requires { id < 256 }
 {
     let row = &near[4 * id..4 * id + 4];
-    if row.iter().all(|word| *word == 0) {
+    if is_empty(row) {
         return Ok(());
     }
     writeln!(out, "storage {id} interferes{}", Numbers::of(row))
@@ -47,6 +52,9 @@ fn put_copies(out: &mut impl Write, copies: &[u64; 1024]) -> Result<()> {
 fn put_copies_of(out: &mut impl Write, id: usize, copies: &[u64; 1024]) -> Result<()>
     requires { id < 256 }
 {
+    if is_empty(&copies[4 * id..4 * id + 4]) {
+        return Ok(());
+    }
     for other in 0..256 {
         if rows::has(copies, 4 * id, other) {
             writeln!(out, "copy {id} {other}")?;
