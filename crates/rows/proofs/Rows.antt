@@ -118,6 +118,15 @@ paste_put d at s n e = rw (← e, take-length)
 pub put_mid_put : (a k : ℕ) (ws ys r : List ℕ) → ys ≡ r → length r ≡ k → put_mid a k ws ys ≡ put ws a r
 put_mid_put a k ws ys r e l = put_mid-paste a k ws ys r k e refl (sym l) ∙ paste_put ws a r k l
 
+-- The part holds a part of another list, word by word.
+pub put_mid_row : (ws F ys : List ℕ) (to b n k : ℕ) → b + n ≤ length F → k ≡ n → length ys ≡ n
+    → ((i : ℕ) → i < n → get_or ys i 0 ≡ get_or (between b (b + n) F) i 0) → put_mid to k ws ys ≡ put ws to (row F b n)
+put_mid_row ws F ys to b n k hf kn l h =
+    let m : length (row F b n) ≡ n = length_row F b n hf in
+    put_mid_put to k ws ys _
+    (ext_get_or 0 ys _ (l ∙ sym m) (λ i g. h i (omega arith) ∙ ap (λ (x : List ℕ). get_or x i 0) (part_row F b n)))
+    (m ∙ sym kn)
+
 -- The part holds what an operation makes, word by word, of what was there and a part of another list.
 pub put_mid_zip : (f : ℕ → ℕ → ℕ) → f 0 0 ≡ 0 → (ws F ys : List ℕ) (to b n k : ℕ) → to + n ≤ length ws → b + n ≤ length F → k ≡ n → length ys ≡ length (between to (to + n) ws)
     → ((i : ℕ) → i < length (between to (to + n) ws) → get_or ys i 0 ≡ f (get_or (between to (to + n) ws) i 0) (get_or (between b (b + n) F) i 0))

@@ -75,12 +75,15 @@ pub fn same_row(x: &[u64], a: usize, y: &[u64], b: usize, n: usize) -> bool
     true
 }
 
-// The row at to becomes the row at b of another slice.
+// The row at to becomes the row at b of another slice. A short row is copied word by word, as `copy_from_slice` keeps it out of the registers.
 pub fn copy_row(words: &mut [u64], to: usize, from: &[u64], b: usize, n: usize)
     requires { (to + n ≤ length words.old) × (b + n ≤ length from.now) }
     ensures { words.new ≡ put words.old to (row from.now b n) }
 {
-    words[to..to + n].copy_from_slice(&from[b..b + n]);
+    let other = &from[b..b + n];
+    for (i, w) in words[to..to + n].iter_mut().enumerate() {
+        *w = other[i];
+    }
 }
 
 // The same, and whether that changed anything: what a loop that runs until nothing changes asks.

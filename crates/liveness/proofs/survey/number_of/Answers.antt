@@ -7,11 +7,11 @@ use Rattle.liveness.proofs.survey.number_of.Goals as goal
 pub loop-i-init : goal.loop-i-init
 loop-i-init c = omega arith
 
-pub returns-then-other-id : goal.returns-then-other-id
-returns-then-other-id c = (omega arith, searched_found _ _ _ c.loop-i.invariant (omega arith) c.if-other-id.true)
+pub returns-then-ids-i : goal.returns-then-ids-i
+returns-then-ids-i c = (omega arith, searched_found _ _ _ c.loop-i.invariant (omega arith) c.if-ids-i.true)
 
 pub loop-i-preserved : goal.loop-i-preserved
-loop-i-preserved c = searched_on _ _ _ c.loop-i.invariant (omega arith) c.if-other-id.false
+loop-i-preserved c = searched_on _ _ _ c.loop-i.invariant (omega arith) c.if-ids-i.false
 
 pub returns : goal.returns
 returns c = (omega arith, searched_none _ _ c.loop-i.i c.loop-i.invariant (omega arith) (omega arith))
