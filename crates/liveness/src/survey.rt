@@ -1,6 +1,6 @@
 // One walk over a function's records: what each block reads and writes, where it goes on, and where its steps begin.
 // Nothing relies on the order of records: what stands out of order is passed over, as the definitions pass over it.
-ghost use Rattle.std.specs.Prelude.{◌≡◌, true, false, ℕ, ◌+◌, ◌*◌, ◌≤◌, ◌<◌, length, get_or, take, MatchOption};
+ghost use Rattle.std.specs.Prelude.{◌≡◌, true, false, ℕ, ◌+◌, ◌*◌, ◌≤◌, ◌<◌, length, get_or, MatchOption};
 ghost use mathlib.Core.List.{List, [], ◌∷◌, ◌++◌, Memᴰ};
 ghost use Rattle.fields.specs.Edition.{one};
 ghost use Rattle.fields.specs.Record.{length_of};
@@ -318,35 +318,43 @@ fn take_block(
     }
 }
 
-// The number of a block, by its id among the first `count`; `count` where none has it. The list is lent whole: its length is then known, and eight ids
-// are compared at once.
-fn number_of(ids: &[u16], count: usize, id: u16) -> usize
-    requires { count ≤ length ids.now }
-    ensures { (result ≤ count) × (result ≡ number_in id (take count ids.now)) }
+// The number of a block, by its id; the number of blocks where none has it.
+fn number_of(ids: &[u16], id: u16) -> usize
+    ensures { (result ≤ length ids.now) × (result ≡ number_in id ids.now) }
 {
-    for i in 0..count {
-        if ids[i] == id {
+    for (i, &other) in ids.iter().enumerate() {
+        if other == id {
             return i;
         }
     }
-    count
+    ids.len()
 }
 
 // Target ids become block numbers.
-fn number_targets(ids: &[u16], count: usize, targets: &mut [u16])
-    requires { (count ≤ 128) × (count ≤ length ids.now) }
-    ensures { (i : ℕ) → i < length targets.old → get_or targets.new i 0 ≡ number_in (get_or targets.old i 0) (take count ids.now) }
+fn number_targets(ids: &[u16], targets: &mut [u16])
+    requires { length ids.now ≤ 128 }
+    ensures { (i : ℕ) → i < length targets.old → get_or targets.new i 0 ≡ number_in (get_or targets.old i 0) ids.now }
 {
     for target in targets {
-        *target = number_of(ids, count, *target) as u16;
+        *target = number_of(ids, *target) as u16;
     }
 }
 
-// A block record stands there, and there is room for one more block.
+// A block record stands there, and there is room for one more block. Its tests stand one by one: behind a pattern on the tail the compiler loses sight of
+// the bound on b, and so of the length of the list of ids, eight of which it compares at once.
 fn at_block(file: &[u8], at: usize, b: usize) -> bool
     ensures { BlockNext file.now at b result }
 {
-    b < BLOCKS && matches!(file.get(at..), Some([4, _, _, ..]))
+    if BLOCKS <= b {
+        return false;
+    }
+    if file.len() <= at {
+        return false;
+    }
+    if file.len() - at < 3 {
+        return false;
+    }
+    file[at] == 4
 }
 
 // The function whose records begin at `own`, for the passes and for the graph.
@@ -377,7 +385,7 @@ pub fn survey(source: Numbered, own: Cursor, findings: &mut Findings) -> Overvie
         w = take_block(source, own, w, b, findings, &mut ids);
         b += 1;
     }
-    number_targets(&ids, b, &mut findings.steps.targets[..w.targets]);
+    number_targets(&ids[..b], &mut findings.steps.targets[..w.targets]);
     let c = Cursor { at: w.at, k: w.k };
     let after = seek(source.file, c, false);
     Overview { blocks: b, after }

@@ -34,7 +34,7 @@ loop-own-preserved c =
     (i.0, growing_on _ _ _ _ _ _ _ _ i.1 _ _ _ y.0 c.args.source.short c.take_block-w.ensures)
 
 pub number_targets-requires : goal.number_targets-requires
-number_targets-requires c = (c.loop-own.invariant.1.few, omega (arith, c.loop-own.invariant.1.few))
+number_targets-requires c = omega (arith, length-take-le c.loop-own.b c.loop-own.ids (omega (arith, c.loop-own.invariant.1.few)), c.loop-own.invariant.1.few)
 
 pub seek-after-requires : goal.seek-after-requires
 seek-after-requires c = (c.args.source.short, c.loop-own.invariant.1.within.0)
